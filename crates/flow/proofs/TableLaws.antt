@@ -1,0 +1,70 @@
+-- Laws of tables, of lists with one element set, and of lists of tests.
+use Prim.Native.Nat.{ℕ, zero, suc, _+_, _≤_, _<_}
+use native.Mathlib.Omega.{arith}
+use native.Mathlib.Nat.{not-suc-le-zero, le-of-suc-le-suc}
+use native.Mathlib.Decide.{ℕ-discrete, decLt}
+use mathlib.Core.Path.{_≡_, refl, sym, ap, _∙_}
+use mathlib.Core.Logic.{_⊎_, inl, inr}
+use mathlib.Core.Bool.{Bool, true, false, true≢false}
+use mathlib.Core.List.{List, [], _∷_, _++_}
+use mathlib.Core.Option.{Option, none, some}
+use lib.Dec.{ltb, eqb}
+use lib.ListN.{getD, length, set}
+use lib.Seq.{getD-set-same, getD-set-other, set-out}
+use borrow.Author.Tests.{ltb-true, ltb-false, eq-eqb}
+use Rattle.flow.specs.Tables.{tableFrom, table, someBelow, isIn, Test, _⇒_, firstThat}
+use Rattle.flow.proofs.Bools.{by, no-both, choice}
+
+tableFrom-at : {A : Type 0} (n k : ℕ) (f : ℕ → A) (i : ℕ) (d : A) → i < n → getD (tableFrom n k f) i d ≡ f (k + i)
+unfolding tableFrom
+tableFrom-at zero k f i d h = absurd (not-suc-le-zero h)
+tableFrom-at (suc n) k f zero d h = ap f (omega arith)
+tableFrom-at (suc n) k f (suc i) d h = tableFrom-at n (suc k) f i d (le-of-suc-le-suc h) ∙ ap f (omega arith)
+
+pub table-at : {A : Type 0} (n : ℕ) (f : ℕ → A) (i : ℕ) (d : A) → i < n → getD (table n f) i d ≡ f i
+unfolding table
+table-at n f i d h = tableFrom-at n 0 f i d h ∙ ap f (omega arith)
+
+-- ---- some and none below n
+pub some-of : (n : ℕ) (f : ℕ → Bool) (i : ℕ) → i < n → f i ≡ true → someBelow n f ≡ true
+unfolding someBelow
+some-of zero f i h e = absurd (not-suc-le-zero h)
+some-of (suc n) f i h e =
+    choice (λ x. x ≡ true) (f n) true (someBelow n f) (λ q. refl)
+    (λ q. some-of n f i (by (ltb i n) (λ l. ltb-true i n l) (λ l. let m : n ≤ i = ltb-false i n l in let z : i ≡ n = omega arith in no-both (rw z at e) q)) e)
+
+pub none-of : (n : ℕ) (f : ℕ → Bool) (i : ℕ) → someBelow n f ≡ false → i < n → f i ≡ false
+none-of n f i e h = by (f i) (λ q. no-both (some-of n f i h q) e) (λ q. q)
+
+pub none-below : (n : ℕ) (f : ℕ → Bool) → ((i : ℕ) → i < n → f i ≡ false) → someBelow n f ≡ false
+unfolding someBelow
+none-below zero f h = refl
+none-below (suc n) f h =
+    choice (λ x. x ≡ false) (f n) true (someBelow n f) (λ q. no-both q (h n (omega arith))) (λ q. none-below n f (λ i l. h i (omega arith)))
+
+-- ---- an entry of a list stands in it
+pub is-in : (l : List ℕ) (k d : ℕ) → (getD l k d ≡ d → ⊥) → isIn (getD l k d) l ≡ true
+unfolding isIn
+is-in [] k d h = absurd (h refl)
+is-in (x ∷ xs) zero d h = choice (λ b. b ≡ true) (eqb x x) true (isIn x xs) (λ e. refl) (λ e. no-both (eq-eqb x x refl) e)
+is-in (x ∷ xs) (suc k) d h = choice (λ b. b ≡ true) (eqb (getD xs k d) x) true (isIn (getD xs k d) xs) (λ e. refl) (λ e. is-in xs k d h)
+
+-- ---- an element after `set`
+pub set-cases : {A : Type 0} (l : List A) (i : ℕ) (a : A) (k : ℕ) (d : A) (P : A → Type 0) → P a → P (getD l k d) → P (getD (set l i a) k d)
+set-cases {A} l i a k d P h g = go (ℕ-discrete k i) (decLt i (length l))
+  where
+    go : Dec (k ≡ i) → Dec (i < length l) → P (getD (set l i a) k d)
+    go (yes e) (yes m) = rw (e, getD-set-same l i a d m) h
+    go (yes e) (no m) = rw (set-out l i a (omega arith)) g
+    go (no e) m = rw (getD-set-other l i k a d e) g
+
+-- ---- of the tests of a list none holds
+unfoldable pub AllFalse : List Test → Type 0
+AllFalse [] = Unit {0}
+AllFalse ((b ⇒ n) ∷ ts) = (b ≡ false) × AllFalse ts
+
+pub all-false : (ts : List Test) → firstThat ts ≡ none → AllFalse ts
+unfolding firstThat AllFalse
+all-false [] h = tt
+all-false ((true ⇒ n) ∷ ts) h = absurd (let z : _≡_ {A = ℕ} 0 1 = cc in let y : ⊥ = omega arith in y)
+all-false ((false ⇒ n) ∷ ts) h = (refl, all-false ts h)

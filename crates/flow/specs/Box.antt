@@ -1,0 +1,127 @@
+-- Document 01, The box: the numbers and their limits, the state, and the fresh state.
+use Prim.Native.Nat.{ℕ, _+_, _-_, _*_}
+use mathlib.Core.Bool.{Bool, _&&_, _||_}
+use mathlib.Core.List.{List, []}
+use lib.Dec.{ltb, leb}
+use lib.ListN.{getD, replicate}
+
+-- ---- the limits
+abbrev pub containerCount : ℕ
+containerCount = 64
+
+-- containers 0 to 7 are devices
+abbrev pub deviceCount : ℕ
+deviceCount = 8
+
+-- containers 8 to 23 are the processes 0 to 15
+abbrev pub firstProcess : ℕ
+firstProcess = 8
+
+abbrev pub processCount : ℕ
+processCount = 16
+
+-- containers 24 to 63 are files and pipes
+abbrev pub firstFile : ℕ
+firstFile = 24
+
+abbrev pub itemCount : ℕ
+itemCount = 64
+
+abbrev pub nameCount : ℕ
+nameCount = 128
+
+-- the descriptors of each process
+abbrev pub descriptorCount : ℕ
+descriptorCount = 32
+
+abbrev pub ruleCount : ℕ
+ruleCount = 32
+
+-- the greatest length of a log that the program reads
+abbrev pub logLimit : ℕ
+logLimit = 65536
+
+-- ---- the kinds of container
+unfoldable pub isDevice : ℕ → Bool
+isDevice c = ltb c deviceCount
+
+unfoldable pub isProcess : ℕ → Bool
+isProcess c = leb firstProcess c && ltb c firstFile
+
+-- a file or a pipe
+unfoldable pub isFile : ℕ → Bool
+isFile c = leb firstFile c && ltb c containerCount
+
+-- process p is container 8 + p
+abbrev pub own : ℕ → ℕ
+own p = firstProcess + p
+
+-- ---- rules (01, The records): an item is a number, a set of containers too
+pub data Condition : Type 0 where
+  forbid : ℕ → ℕ → Condition  -- tag 11 hex: the item may be in no container of the set
+  separate : ℕ → ℕ → Condition  -- tag 12 hex: no container may hold both items
+  confine : ℕ → ℕ → Condition  -- tag 13 hex: the item may be in no container outside the set
+
+-- action 0 inhibits, 1 diverts to the substitute
+pub record Rule : Type 0 where
+  pub condition : Condition
+  pub action : ℕ
+  pub substitute : ℕ
+
+-- ---- the state
+-- live: the set of live processes. items: for each container the set of its items (the storage map).
+-- feeders, fed: for each process the set of the containers that link to it, and of those that it links to (the alias map).
+-- descriptors: 32 for each process; names: 128. An entry is the container that it leads to (the naming maps).
+-- rules: those loaded, number 0 first.
+pub record State : Type 0 where
+  pub live : ℕ
+  pub items : List ℕ
+  pub feeders : List ℕ
+  pub fed : List ℕ
+  pub descriptors : List ℕ
+  pub names : List ℕ
+  pub rules : List Rule
+
+-- the mark of a closed descriptor and of an unbound name
+abbrev pub closed : ℕ
+closed = 255
+
+-- no live process, no rules, no items anywhere and no links; every descriptor closed, every name unbound
+unfoldable pub fresh : State
+fresh =
+    record {
+      live = 0;
+      items = replicate containerCount 0;
+      feeders = replicate processCount 0;
+      fed = replicate processCount 0;
+      descriptors = replicate (processCount * descriptorCount) closed;
+      names = replicate nameCount closed;
+      rules = [];
+    }
+
+-- ---- looking things up
+-- the items of container c
+unfoldable pub itemsOf : State → ℕ → ℕ
+itemsOf s c = getD (s .items) c 0
+
+-- the containers that link to process p, and those that it links to
+unfoldable pub feedersOf : State → ℕ → ℕ
+feedersOf s p = getD (s .feeders) p 0
+
+unfoldable pub fedBy : State → ℕ → ℕ
+fedBy s p = getD (s .fed) p 0
+
+-- the place of descriptor d of process p
+abbrev pub slot : ℕ → ℕ → ℕ
+slot p d = descriptorCount * p + d
+
+-- where descriptor d of process p leads, and name n
+unfoldable pub descriptor : State → ℕ → ℕ → ℕ
+descriptor s p d = getD (s .descriptors) (slot p d) closed
+
+unfoldable pub name : State → ℕ → ℕ
+name s n = getD (s .names) n closed
+
+-- an entry leads to a device, a file or a pipe; any other entry counts as closed or unbound
+unfoldable pub leads : ℕ → Bool
+leads e = isDevice e || isFile e

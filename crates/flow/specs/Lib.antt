@@ -1,0 +1,13 @@
+pub mod Tables
+pub mod Box
+pub mod Links
+pub mod Calls
+pub mod Rules
+pub mod Records
+pub mod Refusals
+pub mod Verdicts
+pub mod Queries
+pub mod Contents
+pub mod TwoRuns
+pub mod Exact
+pub mod Kept

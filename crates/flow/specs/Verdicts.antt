@@ -1,0 +1,109 @@
+-- Document 01, What a record gets: verdicts, the answer to a record, the state after it, and a whole log.
+use Prim.Native.Nat.{ℕ, zero, suc}
+use mathlib.Core.Bool.{Bool, true, false, not, _&&_}
+use mathlib.Core.List.{List, [], _∷_, _++_}
+use mathlib.Core.Option.{Option, none, some}
+use lib.Dec.{eqb}
+use lib.ListN.{length}
+use Rattle.flow.specs.Box.{own, Rule, State}
+use Rattle.flow.specs.Links.{used}
+use Rattle.flow.specs.Calls.{kindNumber, Call, Flow, gift, Change, change, after}
+use Rattle.flow.specs.Rules.{Numbered, lowestBroken}
+use Rattle.flow.specs.Records.{callOf, ruleOf, recordsOf}
+use Rattle.flow.specs.Refusals.{refusal}
+
+-- what a record gets, with the change that it makes
+pub data Outcome : Type 0 where
+  refuses : ℕ → Outcome
+  loads : ℕ → Rule → Outcome  -- the rule's number
+  allows : Change → Outcome
+  inhibits : ℕ → Outcome  -- the broken rule
+  modifies : ℕ → ℕ → Change → Outcome  -- the broken rule, the substitute
+
+-- a write to the substitute instead
+unfoldable pub diversion : State → Call → Rule → Change
+diversion s q r = record { tables = s; flow = gift (own (q .process)) (r .substitute) }
+
+-- the rule diverts, the call is a write, and the substitute is in use
+unfoldable pub mayDivert : State → Call → Rule → Bool
+mayDivert s q r = eqb (r .action) 1 && eqb (kindNumber (q .kind)) 9 && used s (r .substitute)
+
+unfoldable pub breaksNone : State → Bool
+breaksNone s = elim (lowestBroken s) [ none ↦ true | some x ↦ false ]
+
+-- what the lowest broken rule, number n, does about the call
+unfoldable pub stopped : State → Call → ℕ → Rule → Outcome
+stopped s q n r =
+    elim (mayDivert s q r) [
+      | true ↦ (let x = diversion s q r in elim (breaksNone (after s x)) [ true ↦ modifies n (r .substitute) x | false ↦ inhibits n ])
+      | false ↦ inhibits n
+    ]
+
+-- a call is worked out first; if no rule is broken after it: allow
+unfoldable pub verdictBy : State → Call → Option Numbered → Outcome
+verdictBy s q none = allows (change s q)
+verdictBy s q (some x) = stopped s q (x .number) (x .rule)
+
+unfoldable pub verdict : State → Call → Outcome
+verdict s q = verdictBy s q (lowestBroken (after s (change s q)))
+
+-- a record that is not refused is a call or a rule
+unfoldable pub accepted : State → List ℕ → Option Call → Outcome
+accepted s bytes (some q) = verdict s q
+accepted s bytes none = loads (length (s .rules)) (ruleOf bytes)
+
+unfoldable pub outcomeBy : State → List ℕ → Option ℕ → Outcome
+outcomeBy s bytes (some n) = refuses n
+outcomeBy s bytes none = accepted s bytes (callOf bytes)
+
+-- what the record at the front of the bytes gets
+unfoldable pub outcome : State → List ℕ → Outcome
+outcome s bytes = outcomeBy s bytes (refusal s bytes)
+
+-- ---- the answer
+pub data Answer : Type 0 where
+  refused : ℕ → Answer
+  rule : ℕ → Answer
+  allow : Answer
+  inhibit : ℕ → Answer
+  modify : ℕ → ℕ → Answer
+
+unfoldable pub answerOf : Outcome → Answer
+answerOf (refuses n) = refused n
+answerOf (loads n r) = rule n
+answerOf (allows x) = allow
+answerOf (inhibits n) = inhibit n
+answerOf (modifies n c x) = modify n c
+
+unfoldable pub answer : State → List ℕ → Answer
+answer s bytes = answerOf (outcome s bytes)
+
+-- ---- the state after it
+unfoldable pub withRule : State → Rule → State
+withRule s r =
+    record { live = s .live; items = s .items; feeders = s .feeders; fed = s .fed; descriptors = s .descriptors; names = s .names; rules = s .rules ++ (r ∷ []) }
+
+unfoldable pub stateAfter : State → Outcome → State
+stateAfter s (refuses n) = s
+stateAfter s (loads n r) = withRule s r
+stateAfter s (allows x) = after s x
+stateAfter s (inhibits n) = s
+stateAfter s (modifies n c x) = after s x
+
+unfoldable pub next : State → List ℕ → State
+next s bytes = stateAfter s (outcome s bytes)
+
+-- ---- a log: one answer for each record, each meeting the state as the one before left it
+pub record Answered : Type 0 where
+  pub answers : List Answer
+  pub state : State
+
+unfoldable pub answerAll : State → List (List ℕ) → Answered
+answerAll s [] = record { answers = []; state = s }
+answerAll s (r ∷ rs) =
+    let o = outcome s r in
+    let rest = answerAll (stateAfter s o) rs in
+    record { answers = answerOf o ∷ rest .answers; state = rest .state }
+
+unfoldable pub runLog : State → List ℕ → Answered
+runLog s log = answerAll s (recordsOf log)
