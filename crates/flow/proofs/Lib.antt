@@ -1,3 +1,13 @@
 pub mod Bools
 pub mod TableLaws
 pub mod Reach
+pub mod Rows
+pub mod Use
+pub mod Moves
+pub mod After
+pub mod Accepted
+pub mod Entries
+pub mod Outcomes
+pub mod Keeping
+pub mod TwoRuns
+pub mod Exact

@@ -2,15 +2,25 @@
 use Prim.Native.Nat.{ℕ, _<_}
 use mathlib.Core.Path.{_≡_}
 use mathlib.Core.Logic.{_⊎_, _↔_}
-use mathlib.Core.Bool.{true, false}
-use mathlib.Core.List.{List}
+use mathlib.Core.Bool.{Bool, true, false, not, _&&_}
+use mathlib.Core.List.{List, [], _∷_}
 use mathlib.Core.Option.{none}
+use lib.Dec.{ltb}
 use lib.ListN.{getD}
 use Rattle.sets.specs.Sets.{has}
-use Rattle.flow.specs.Box.{containerCount, isProcess, isFile, leads, closed, State, itemsOf}
+use Rattle.flow.specs.Box.{containerCount, isProcess, isFile, leads, closed, Rule, State, itemsOf}
 use Rattle.flow.specs.Links.{linked, used, Leads, reach}
 use Rattle.flow.specs.Rules.{holds, lowestBroken}
+use Rattle.flow.specs.Refusals.{itemsFit, substituteFits, sameItems}
 use Rattle.flow.specs.Contents.{Step, stateAt}
+
+-- refusals 4, 5 and 9 don't apply to the rule
+unfoldable pub wellFormed : Rule → Bool
+wellFormed r = ltb (r .action) 2 && (itemsFit (r .condition) && substituteFits r) && not (sameItems (r .condition))
+
+unfoldable pub allWellFormed : List Rule → Bool
+allWellFormed [] = true
+allWellFormed (r ∷ rs) = wellFormed r && allWellFormed rs
 
 pub record Kept (s : State) : Type 0 where
   -- items go along links
@@ -19,6 +29,8 @@ pub record Kept (s : State) : Type 0 where
   pub bare : (c : ℕ) → c < containerCount → used s c ≡ false → itemsOf s c ≡ 0
   -- no loaded rule is broken
   pub unbroken : lowestBroken s ≡ none
+  -- each could have been loaded
+  pub loadable : allWellFormed (s .rules) ≡ true
   -- a linked process is live, and so is everything that is linked in use
   pub live : (u v : ℕ) → linked s u v ≡ true → (used s u ≡ true) × (used s v ≡ true)
   -- a link joins a process and a device, a file or a pipe

@@ -1,0 +1,179 @@
+-- Every step keeps what Kept says.
+use Prim.Native.Nat.{ℕ, zero, suc, _+_, _^_, _<_}
+use native.Mathlib.Omega.{arith}
+use mathlib.Core.Path.{_≡_, refl, sym, ap, _∙_}
+use mathlib.Core.Bool.{Bool, true, false, not, _&&_}
+use mathlib.Core.List.{List, [], _∷_, _++_}
+use mathlib.Core.Option.{Option, none, some}
+use lib.ListN.{getD, replicate, length-replicate}
+use Rattle.sets.specs.Sets.{has}
+use Rattle.sets.proofs.Members.{none-has}
+use Rattle.flow.specs.Box.{isFile, leads, closed, Condition, forbid, separate, confine, Rule, State, fresh, itemsOf, feedersOf, fedBy}
+use Rattle.flow.specs.Links.{linked, mapped, used}
+use Rattle.flow.specs.Calls.{Call, Change, withItems, emptyUnused, after}
+use Rattle.flow.specs.Rules.{holds, breaks, broken, Numbered, firstBroken, lowestBroken}
+use Rattle.flow.specs.Records.{callOf}
+use Rattle.flow.specs.Verdicts.{Outcome, refuses, loads, allows, inhibits, modifies, outcome, withRule, stateAfter}
+use Rattle.flow.specs.Contents.{Step, entry, memory, stepState, stepAt, stateAt}
+use Rattle.flow.specs.Kept.{wellFormed, allWellFormed, Kept, EveryRecordKeeps}
+use Rattle.flow.proofs.Bools.{and-l, and-r, and-i, by, no-both}
+use Rattle.flow.proofs.TableLaws.{none-of, none-below}
+use Rattle.flow.proofs.Reach.{reach-exact}
+use Rattle.flow.proofs.Rows.{Rows, row-none}
+use Rattle.flow.proofs.Use.{linked-used, linked-joins, fed-row}
+use Rattle.flow.proofs.Moves.{Along, moved-along}
+use Rattle.flow.proofs.After.{Linking, Bare, after-linking, after-bare, after-along}
+use Rattle.flow.proofs.Entries.{Entries, each-closed, each-at}
+use Rattle.flow.proofs.Outcomes.{Made, Sound, outcome-sound}
+
+-- what the proofs carry from state to state
+pub record Invariant (s : State) : Type 0 where
+  pub linking : Linking s
+  pub entries : Entries s
+  pub along : Along s (s .items)
+  pub bare : Bare s
+  pub unbroken : lowestBroken s ≡ none
+  pub loadable : allWellFormed (s .rules) ≡ true
+
+pub fed-bound : (s : State) → Linking s → (p : ℕ) → fedBy s p < 2 ^ 64
+fed-bound s k p = fed-row s (k .feeders) (k .fed) p .fits
+
+-- ---- the fresh state
+zeros : (n k : ℕ) → _≡_ {A = ℕ} (getD (replicate n 0) k 0) 0
+zeros zero k = refl
+zeros (suc n) zero = refl
+zeros (suc n) (suc k) = zeros n k
+
+pub fresh-empty : (c : ℕ) → itemsOf fresh c ≡ 0
+unfolding fresh itemsOf
+fresh-empty c = zeros 64 c
+
+fresh-rows : Rows 0 (replicate 16 0)
+fresh-rows = record { size = length-replicate {A = ℕ} 16 0; row = λ p. rw (zeros 16 p) (row-none 0 p) }
+
+pub fresh-kept : Invariant fresh
+unfolding fresh lowestBroken firstBroken allWellFormed itemsOf
+fresh-kept =
+    record {
+      linking = record { feeders = fresh-rows; fed = fresh-rows };
+      entries = record { described = each-closed leads 512; named = each-closed isFile 128 };
+      along = λ u v i hu hv l h. no-both h (ap (λ (x : ℕ). has x i) (zeros 64 u) ∙ none-has i);
+      bare = λ c hc e. zeros 64 c;
+      unbroken = refl;
+      loadable = refl;
+    }
+
+-- ---- a change
+made-kept : (s : State) (q : Option Call) (x : Change) → Invariant s → Made s q x → Invariant (after s x)
+unfolding holds itemsOf after emptyUnused withItems
+made-kept s q x k m =
+    record {
+      linking = after-linking s x (m .linking);
+      entries = record { described = m .entries .described; named = m .entries .named };
+      along = after-along s x (m .linking) (moved-along s (fed-bound s (k .linking)) (x .tables) (k .along) (x .flow) (m .fit));
+      bare = after-bare s x;
+      unbroken = m .unbroken;
+      loadable = rw (m .rules) (k .loadable);
+    }
+
+-- ---- a rule
+none-not-some : {x : Numbered} {A : Type 0} → some x ≡ none → A
+none-not-some e = absurd (let z : _≡_ {A = ℕ} 0 1 = cc in let y : ⊥ = omega arith in y)
+
+-- no rule of the list is broken: neither the first nor any other
+pub first-whole : (s : State) (k : ℕ) (r : Rule) (rs : List Rule) → firstBroken s k (r ∷ rs) ≡ none → (broken s r ≡ false) × (firstBroken s (suc k) rs ≡ none)
+unfolding firstBroken
+first-whole s k r rs = go (broken s r)
+  where
+    go : (b : Bool) → _≡_ {A = Option Numbered} (elim b as (λ z. Option Numbered) [ true ↦ some (record { number = k; rule = r }) | false ↦ firstBroken s (suc k) rs ]) none
+        → (b ≡ false) × (firstBroken s (suc k) rs ≡ none)
+    go true e = none-not-some e
+    go false e = (refl, e)
+
+pub more-whole : (s : State) (k : ℕ) (r : Rule) (rs : List Rule) → broken s r ≡ false → firstBroken s (suc k) rs ≡ none → firstBroken s k (r ∷ rs) ≡ none
+unfolding firstBroken
+more-whole s k r rs e f = rw (e, firstBroken) f
+
+-- ---- where less is held, no more is broken
+module _ (s t : State) (less : (v i : ℕ) → v < 64 → holds s v i ≡ true → holds t v i ≡ true) where
+  breaks-more : (c : Condition) (v : ℕ) → v < 64 → breaks s c v ≡ true → breaks t c v ≡ true
+  unfolding breaks
+  breaks-more (forbid i x) v h e = and-i (holds t v i) _ (less v i h (and-l _ (has x v) e)) (and-r (holds s v i) _ e)
+  breaks-more (separate i j) v h e = and-i (holds t v i) _ (less v i h (and-l _ (holds s v j) e)) (less v j h (and-r (holds s v i) _ e))
+  breaks-more (confine i x) v h e = and-i (holds t v i) _ (less v i h (and-l _ (not (has x v)) e)) (and-r (holds s v i) _ e)
+
+  pub fewer-broken : (r : Rule) → broken t r ≡ false → broken s r ≡ false
+  unfolding broken
+  fewer-broken r e =
+      none-below 64 _
+      (λ v h. by (breaks s (r .condition) v) (λ f. no-both (breaks-more (r .condition) v h f) (none-of 64 (breaks t (r .condition)) v e h)) (λ f. f))
+
+  pub none-broken : (k : ℕ) (rs : List Rule) → firstBroken t k rs ≡ none → firstBroken s k rs ≡ none
+  unfolding firstBroken
+  none-broken k [] e = refl
+  none-broken k (r ∷ rs) e =
+      let w = first-whole t k r rs e in
+      more-whole s k r rs (fewer-broken r (w .0)) (none-broken (suc k) rs (w .1))
+
+one-more : (s : State) (k : ℕ) (rs : List Rule) (x : Rule) → firstBroken s k rs ≡ none → broken s x ≡ false → firstBroken s k (rs ++ (x ∷ [])) ≡ none
+unfolding firstBroken
+one-more s k [] x e f = more-whole s k x [] f refl
+one-more s k (r ∷ rs) x e f = let w = first-whole s k r rs e in more-whole s k r (rs ++ (x ∷ [])) (w .0) (one-more s (suc k) rs x (w .1) f)
+
+one-formed : (rs : List Rule) (x : Rule) → allWellFormed rs ≡ true → wellFormed x ≡ true → allWellFormed (rs ++ (x ∷ [])) ≡ true
+unfolding allWellFormed
+one-formed [] x e f = and-i (wellFormed x) true f refl
+one-formed (r ∷ rs) x e f = and-i (wellFormed r) _ (and-l _ (allWellFormed rs) e) (one-formed rs x (and-r (wellFormed r) _ e) f)
+
+rule-kept : (s : State) (x : Rule) → Invariant s → broken s x ≡ false → wellFormed x ≡ true → Invariant (withRule s x)
+unfolding withRule linked feedersOf fedBy used mapped holds itemsOf lowestBroken
+rule-kept s x k e f =
+    record {
+      linking = record { feeders = k .linking .feeders; fed = k .linking .fed };
+      entries = record { described = k .entries .described; named = k .entries .named };
+      along = k .along;
+      bare = k .bare;
+      unbroken = none-broken (withRule s x) s (λ v i h m. m) 0 _ (one-more s 0 (s .rules) x (k .unbroken) e);
+      loadable = one-formed (s .rules) x (k .loadable) f;
+    }
+
+-- ---- a step
+pub outcome-kept : (s : State) (q : Option Call) (o : Outcome) → Invariant s → Sound s q o → Invariant (stateAfter s o)
+unfolding stateAfter Sound
+outcome-kept s q (refuses n) k h = k
+outcome-kept s q (loads n r) k h = rule-kept s r k (h .0) (h .1)
+outcome-kept s q (allows x) k h = made-kept s q x k h
+outcome-kept s q (inhibits n) k h = k
+outcome-kept s q (modifies n c x) k h = made-kept s q x k h
+
+pub sound : (s : State) → Invariant s → (bytes : List ℕ) → Sound s (callOf bytes) (outcome s bytes)
+sound s k bytes = outcome-sound s (k .linking) (k .entries) bytes (k .loadable)
+
+pub step-kept : (s : State) (x : Step) → Invariant s → Invariant (stepState s x)
+unfolding stepState
+step-kept s (entry bytes) k = outcome-kept s (callOf bytes) (outcome s bytes) k (sound s k bytes)
+step-kept s memory k = k
+
+pub state-kept : (steps : List Step) (k : ℕ) → Invariant (stateAt steps k)
+unfolding stateAt
+state-kept steps zero = fresh-kept
+state-kept steps (suc k) = step-kept (stateAt steps k) (stepAt steps k) (state-kept steps k)
+
+pub invariant-keeps : (s : State) → Invariant s → Kept s
+unfolding holds itemsOf
+invariant-keeps s k =
+    record {
+      along = k .along;
+      bare = k .bare;
+      unbroken = k .unbroken;
+      loadable = k .loadable;
+      live = linked-used s (k .linking .feeders) (k .linking .fed);
+      joined = linked-joins s (k .linking .feeders) (k .linking .fed);
+      described = λ n. each-at leads (s .descriptors) n (k .entries .described);
+      named = λ n. each-at isFile (s .names) n (k .entries .named);
+      reached = reach-exact s (fed-bound s (k .linking));
+    }
+
+pub every-record-keeps : EveryRecordKeeps
+unfolding EveryRecordKeeps
+every-record-keeps steps k = invariant-keeps (stateAt steps k) (state-kept steps k)
