@@ -11,3 +11,5 @@ pub mod Outcomes
 pub mod Keeping
 pub mod TwoRuns
 pub mod Exact
+pub mod Runs
+pub mod Consequences

@@ -98,7 +98,7 @@ pub after-rules : (s : State) (x : Change) → after s x .rules ≡ x .tables .r
 unfolding after emptyUnused withItems
 after-rules s x = refl
 
-rules-kept : (s : State) (q : Call) → after s (change s q) .rules ≡ s .rules
+pub rules-kept : (s : State) (q : Call) → after s (change s q) .rules ≡ s .rules
 unfolding change
 rules-kept s q = after-rules s (change s q) ∙ rules-after s (q .process) (q .a) (q .b) (q .c) (q .kind)
 
@@ -106,6 +106,51 @@ rules-kept s q = after-rules s (change s q) ∙ rules-after s (q .process) (q .a
 no-call : (bytes : List ℕ) → eqb (tagOf bytes) callTag ≡ false → callOf bytes ≡ none
 unfolding callOf
 no-call bytes e = chosen-r (eqb (tagOf bytes) callTag && not (cutShort bytes) && not (wrongLength bytes)) _ none (rw e refl)
+
+-- of a write
+writer-lt : (kind : Kind) (p : ℕ) → eqb (kindNumber kind) 9 ≡ true → inRange (ranges kind .process) p ≡ true → own p < 64
+unfolding kindNumber ranges inRange
+writer-lt write p e h = let l : p < 16 = ltb-true p 16 h in omega arith
+writer-lt start p e h = no-both e refl
+writer-lt openName p e h = no-both e refl
+writer-lt create p e h = no-both e refl
+writer-lt pipe p e h = no-both e refl
+writer-lt device p e h = no-both e refl
+writer-lt dup p e h = no-both e refl
+writer-lt close p e h = no-both e refl
+writer-lt read p e h = no-both e refl
+writer-lt truncate p e h = no-both e refl
+writer-lt mapRead p e h = no-both e refl
+writer-lt mapBoth p e h = no-both e refl
+writer-lt unmap p e h = no-both e refl
+writer-lt unlink p e h = no-both e refl
+writer-lt rename p e h = no-both e refl
+writer-lt link p e h = no-both e refl
+writer-lt fork p e h = no-both e refl
+writer-lt exit p e h = no-both e refl
+writer-lt label p e h = no-both e refl
+
+-- the lowest broken rule is one of the list
+broken-fits : (u : State) (n : ℕ) (rs : List Rule) (x : Numbered) → allWellFormed rs ≡ true → firstBroken u n rs ≡ some x → wellFormed (x .rule) ≡ true
+unfolding firstBroken allWellFormed
+broken-fits u n [] x w e = cc
+broken-fits u n (r ∷ rs) x w e = go (broken u r) (broken-fits u (suc n) rs x (and-r (wellFormed r) _ w)) e
+  where
+    go : (b : Bool) → (firstBroken u (suc n) rs ≡ some x → wellFormed (x .rule) ≡ true)
+        → _≡_ {A = Option Numbered} (elim b as (λ z. Option Numbered) [ true ↦ some (record { number = n; rule = r }) | false ↦ firstBroken u (suc n) rs ]) (some x) → wellFormed (x .rule) ≡ true
+    go true f e = let q : x .rule ≡ r = cc in rw q (and-l _ (allWellFormed rs) w)
+    go false f e = f e
+
+substitute-leads : (r : Rule) → wellFormed r ≡ true → eqb (r .action) 1 ≡ true → leads (r .substitute) ≡ true
+unfolding wellFormed substituteFits
+substitute-leads r w e =
+    let f : substituteFits r ≡ true = and-r (itemsFit (r .condition)) _ (and-r (ltb (r .action) 2) _ (and-l _ (not (sameItems (r .condition))) w)) in
+    let q : r .action ≡ 1 = eqb-true (r .action) 1 e in
+    rw q at f
+
+pub none-is : (o : Option Numbered) → _≡_ {A = Bool} (elim o as (λ z. Bool) [ none ↦ true | some x ↦ false ]) true → o ≡ none
+none-is none h = refl
+none-is (some x) h = no-both h refl
 
 module _ (s : State) (k : Linking s) (t : Entries s) where
   change-made : (q : Call) → Accepted s q → lowestBroken (after s (change s q)) ≡ none → Made s (some q) (change s q)
@@ -119,51 +164,6 @@ module _ (s : State) (k : Linking s) (t : Entries s) where
         unbroken = e;
         labelled = label-brings s (q .process) (q .a) (q .b) (q .c) (q .kind);
       }
-
-  -- of a write
-  writer-lt : (kind : Kind) (p : ℕ) → eqb (kindNumber kind) 9 ≡ true → inRange (ranges kind .process) p ≡ true → own p < 64
-  unfolding kindNumber ranges inRange
-  writer-lt write p e h = let l : p < 16 = ltb-true p 16 h in omega arith
-  writer-lt start p e h = no-both e refl
-  writer-lt openName p e h = no-both e refl
-  writer-lt create p e h = no-both e refl
-  writer-lt pipe p e h = no-both e refl
-  writer-lt device p e h = no-both e refl
-  writer-lt dup p e h = no-both e refl
-  writer-lt close p e h = no-both e refl
-  writer-lt read p e h = no-both e refl
-  writer-lt truncate p e h = no-both e refl
-  writer-lt mapRead p e h = no-both e refl
-  writer-lt mapBoth p e h = no-both e refl
-  writer-lt unmap p e h = no-both e refl
-  writer-lt unlink p e h = no-both e refl
-  writer-lt rename p e h = no-both e refl
-  writer-lt link p e h = no-both e refl
-  writer-lt fork p e h = no-both e refl
-  writer-lt exit p e h = no-both e refl
-  writer-lt label p e h = no-both e refl
-
-  -- the lowest broken rule is one of the list
-  broken-fits : (u : State) (n : ℕ) (rs : List Rule) (x : Numbered) → allWellFormed rs ≡ true → firstBroken u n rs ≡ some x → wellFormed (x .rule) ≡ true
-  unfolding firstBroken allWellFormed
-  broken-fits u n [] x w e = cc
-  broken-fits u n (r ∷ rs) x w e = go (broken u r) (broken-fits u (suc n) rs x (and-r (wellFormed r) _ w)) e
-    where
-      go : (b : Bool) → (firstBroken u (suc n) rs ≡ some x → wellFormed (x .rule) ≡ true)
-          → _≡_ {A = Option Numbered} (elim b as (λ z. Option Numbered) [ true ↦ some (record { number = n; rule = r }) | false ↦ firstBroken u (suc n) rs ]) (some x) → wellFormed (x .rule) ≡ true
-      go true f e = let q : x .rule ≡ r = cc in rw q (and-l _ (allWellFormed rs) w)
-      go false f e = f e
-
-  substitute-leads : (r : Rule) → wellFormed r ≡ true → eqb (r .action) 1 ≡ true → leads (r .substitute) ≡ true
-  unfolding wellFormed substituteFits
-  substitute-leads r w e =
-      let f : substituteFits r ≡ true = and-r (itemsFit (r .condition)) _ (and-r (ltb (r .action) 2) _ (and-l _ (not (sameItems (r .condition))) w)) in
-      let q : r .action ≡ 1 = eqb-true (r .action) 1 e in
-      rw q at f
-
-  none-is : (o : Option Numbered) → _≡_ {A = Bool} (elim o as (λ z. Bool) [ none ↦ true | some x ↦ false ]) true → o ≡ none
-  none-is none h = refl
-  none-is (some x) h = no-both h refl
 
   -- a diverted write is a gift to the substitute
   diversion-made : (q : Call) (r : Rule) → Accepted s q → wellFormed r ≡ true → mayDivert s q r ≡ true → lowestBroken (after s (diversion s q r)) ≡ none

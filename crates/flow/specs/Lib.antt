@@ -11,3 +11,5 @@ pub mod Contents
 pub mod TwoRuns
 pub mod Exact
 pub mod Kept
+pub mod Runs
+pub mod Consequences

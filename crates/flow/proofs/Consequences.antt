@@ -1,0 +1,142 @@
+-- Short consequences of the definitions.
+use Prim.Native.Nat.{ℕ, zero, suc, _+_, _≤_, _<_}
+use native.Mathlib.Omega.{arith}
+use native.Mathlib.Nat.{le-refl}
+use mathlib.Core.Path.{_≡_, refl, sym, ap, _∙_}
+use mathlib.Core.Bool.{Bool, true, false, not, _&&_}
+use mathlib.Core.List.{List, [], _∷_, _++_, map, append-nil, append-assoc}
+use mathlib.Core.Option.{Option, none, some}
+use lib.ListN.{getD, length, length-append, List·getD-append}
+use lib.Seq.{getD-append-seam}
+use Rattle.flow.specs.Box.{Rule, State}
+use Rattle.flow.specs.Calls.{Kind, start, openName, create, pipe, device, dup, close, read, write, truncate, mapRead, mapBoth, unmap, unlink, rename, link, fork, exit, label, kindNumber, Call, Change, change, after}
+use Rattle.flow.specs.Rules.{holds, Numbered, lowestBroken}
+use Rattle.flow.specs.Records.{kindOf, callOf, recordsOf}
+use Rattle.flow.specs.Refusals.{refusal}
+use Rattle.flow.specs.Verdicts.{Outcome, refuses, loads, allows, inhibits, modifies, diversion, mayDivert, breaksNone, stopped, verdictBy, verdict, accepted, outcomeBy, outcome, Answer, refused, rule, allow, inhibit, modify, answerOf, answer, stateAfter, next, answerAll, runLog}
+use Rattle.flow.specs.Contents.{Step, entry, memory, stepState, stateAt}
+use Rattle.flow.specs.Consequences.{KindsNumbered, PassedBreaksNone, NoGainAllowed, StoppedKeeps, OneAnswerEach, LogIsSteps}
+use Rattle.flow.proofs.Bools.{choice}
+use Rattle.flow.proofs.Outcomes.{none-is, rules-kept}
+use Rattle.flow.proofs.Keeping.{none-broken}
+
+pub kinds-numbered : KindsNumbered
+unfolding KindsNumbered kindOf kindNumber
+kinds-numbered start = refl
+kinds-numbered openName = refl
+kinds-numbered create = refl
+kinds-numbered pipe = refl
+kinds-numbered device = refl
+kinds-numbered dup = refl
+kinds-numbered close = refl
+kinds-numbered read = refl
+kinds-numbered write = refl
+kinds-numbered truncate = refl
+kinds-numbered mapRead = refl
+kinds-numbered mapBoth = refl
+kinds-numbered unmap = refl
+kinds-numbered unlink = refl
+kinds-numbered rename = refl
+kinds-numbered link = refl
+kinds-numbered fork = refl
+kinds-numbered exit = refl
+kinds-numbered label = refl
+
+-- ---- no rule is broken after a change
+unfoldable Whole : State → Outcome → Type 0
+Whole s (refuses n) = Unit {0}
+Whole s (loads n r) = Unit {0}
+Whole s (allows x) = lowestBroken (after s x) ≡ none
+Whole s (inhibits n) = Unit {0}
+Whole s (modifies n c x) = lowestBroken (after s x) ≡ none
+
+module _ (s : State) where
+  stopped-whole : (q : Call) (n : ℕ) (r : Rule) → Whole s (stopped s q n r)
+  unfolding stopped Whole breaksNone
+  stopped-whole q n r =
+      choice (Whole s) (mayDivert s q r) _ _
+      (λ e. choice (Whole s) (breaksNone (after s (diversion s q r))) _ _ (λ f. none-is (lowestBroken (after s (diversion s q r))) f) (λ f. tt))
+      (λ e. tt)
+
+  verdict-whole : (q : Call) (o : Option Numbered) → lowestBroken (after s (change s q)) ≡ o → Whole s (verdictBy s q o)
+  unfolding verdictBy Whole
+  verdict-whole q none e = e
+  verdict-whole q (some x) e = stopped-whole q (x .number) (x .rule)
+
+  accepted-whole : (bytes : List ℕ) (q : Option Call) → Whole s (accepted s bytes q)
+  unfolding accepted verdict Whole
+  accepted-whole bytes none = tt
+  accepted-whole bytes (some q) = verdict-whole q _ refl
+
+  outcome-whole : (bytes : List ℕ) (o : Option ℕ) → Whole s (outcomeBy s bytes o)
+  unfolding outcomeBy Whole
+  outcome-whole bytes none = accepted-whole bytes (callOf bytes)
+  outcome-whole bytes (some n) = tt
+
+pub passed-breaks-none : PassedBreaksNone
+unfolding PassedBreaksNone outcome Whole
+passed-breaks-none s bytes x = (λ e. rw e at (outcome-whole s bytes (refusal s bytes)), λ n c e. rw e at (outcome-whole s bytes (refusal s bytes)))
+
+-- ---- nothing gained
+pub no-gain-allowed : NoGainAllowed
+unfolding NoGainAllowed outcome outcomeBy accepted verdict verdictBy lowestBroken
+no-gain-allowed s bytes q whole e f less = rw (e, outcomeBy, f, accepted, verdict, unbroken) refl
+  where
+    unbroken : lowestBroken (after s (change s q)) ≡ none
+    unbroken = none-broken (after s (change s q)) s less 0 _ (rw (rules-kept s q) whole)
+
+-- ---- nothing changed
+stopped-keeps-by : (s : State) (o : Outcome) (n : ℕ) → (answerOf o ≡ refused n → stateAfter s o ≡ s) × (answerOf o ≡ inhibit n → stateAfter s o ≡ s)
+unfolding answerOf stateAfter
+stopped-keeps-by s (refuses k) n = (λ e. refl, λ e. refl)
+stopped-keeps-by s (loads k r) n = (λ e. cc, λ e. cc)
+stopped-keeps-by s (allows x) n = (λ e. cc, λ e. cc)
+stopped-keeps-by s (inhibits k) n = (λ e. refl, λ e. refl)
+stopped-keeps-by s (modifies k c x) n = (λ e. cc, λ e. cc)
+
+pub stopped-keeps : StoppedKeeps
+unfolding StoppedKeeps answer next
+stopped-keeps s bytes n = stopped-keeps-by s (outcome s bytes) n
+
+-- ---- logs
+answers-each : (s : State) (rs : List (List ℕ)) → length (answerAll s rs .answers) ≡ length rs
+unfolding answerAll
+answers-each s [] = refl
+answers-each s (r ∷ rs) = ap suc (answers-each (stateAfter s (outcome s r)) rs)
+
+pub one-answer-each : OneAnswerEach
+unfolding OneAnswerEach runLog
+one-answer-each s log = answers-each s (recordsOf log)
+
+-- later steps don't change earlier states
+state-front : (xs ys : List Step) (k : ℕ) → k ≤ length xs → stateAt (xs ++ ys) k ≡ stateAt xs k
+unfolding stateAt
+state-front xs ys zero l = refl
+state-front xs ys (suc k) l =
+    ap (λ (x : Step). stepState (stateAt (xs ++ ys) k) x) (List·getD-append xs ys memory k l)
+    ∙ ap (λ (s : State). stepState s (getD xs k memory)) (state-front xs ys k (omega arith))
+
+-- one more step
+state-more : (xs : List Step) (x : Step) (ys : List Step) → stateAt (xs ++ (x ∷ ys)) (suc (length xs)) ≡ stepState (stateAt xs (length xs)) x
+unfolding stateAt
+state-more xs x ys =
+    ap (λ (y : Step). stepState (stateAt (xs ++ (x ∷ ys)) (length xs)) y) (getD-append-seam xs x ys memory)
+    ∙ ap (λ (s : State). stepState s x) (state-front xs (x ∷ ys) (length xs) (le-refl (length xs)))
+
+records-step : (rs : List (List ℕ)) (xs : List Step) (s : State) → s ≡ stateAt xs (length xs)
+    → answerAll s rs .state ≡ stateAt (xs ++ map entry rs) (length (xs ++ map entry rs))
+unfolding answerAll stepState
+records-step [] xs s e = rw append-nil e
+records-step (r ∷ rs) xs s e =
+    records-step rs (xs ++ (entry r ∷ [])) (stateAfter s (outcome s r)) (e′ ∙ sym (state-more xs (entry r) []) ∙ ap (stateAt (xs ++ (entry r ∷ []))) (sym longer))
+    ∙ rw (append-assoc xs (entry r ∷ []) (map entry rs)) refl
+  where
+    e′ : stateAfter s (outcome s r) ≡ stepState (stateAt xs (length xs)) (entry r)
+    e′ = rw e refl
+
+    longer : length (xs ++ (entry r ∷ [])) ≡ suc (length xs)
+    longer = length-append xs (entry r ∷ []) ∙ omega arith
+
+pub log-is-steps : LogIsSteps
+unfolding LogIsSteps runLog
+log-is-steps steps log = records-step (recordsOf log) steps _ refl

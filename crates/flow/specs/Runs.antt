@@ -1,0 +1,162 @@
+-- Document 01, Runs to check: the starred runs as one list, and two examples that contents do move.
+use Prim.Native.Nat.{ℕ, _+_}
+use mathlib.Core.Path.{_≡_}
+use mathlib.Core.Bool.{true, false}
+use mathlib.Core.List.{List, [], _∷_, _++_, map}
+use lib.Dec.{eqb}
+use Rattle.flow.specs.Tables.{table}
+use Rattle.flow.specs.Box.{State, fresh, itemsOf}
+use Rattle.flow.specs.Calls.{Kind, start, openName, create, pipe, device, dup, close, read, write, truncate, mapRead, mapBoth, unmap, unlink, rename, link, fork, exit, label, kindNumber}
+use Rattle.flow.specs.Verdicts.{Answer, refused, rule, allow, inhibit, modify, runLog}
+use Rattle.flow.specs.Contents.{Step, entry, memory, Linked, Machine, stateAt, runAt}
+
+-- a container, and the set of its items
+pub record Held : Type 0 where
+  pub container : ℕ
+  pub items : ℕ
+
+-- a log, the answers to it, and what some containers hold at its end
+pub record Check : Type 0 where
+  pub log : List ℕ
+  pub answers : List Answer
+  pub held : List Held
+
+-- the log's answers and holdings as the definitions have them
+unfoldable pub outcomeOf : Check → Check
+outcomeOf x =
+    let r = runLog fresh (x .log) in
+    record { log = x .log; answers = r .answers; held = map (λ h. record { container = h .container; items = itemsOf (r .state) (h .container) }) (x .held) }
+
+-- ---- logs
+-- a call record
+unfoldable pub call : Kind → ℕ → ℕ → ℕ → ℕ → List ℕ
+call k p a b c = 0x10 ∷ 0 ∷ 5 ∷ kindNumber k ∷ p ∷ a ∷ b ∷ c ∷ []
+
+-- rule records: item, the three lowest bytes and byte 3 of the container set (24 is bit 0 of byte 3), action, substitute
+abbrev setRule : ℕ → ℕ → ℕ → ℕ → ℕ → ℕ → ℕ → ℕ → List ℕ
+setRule tag i b3 b2 b1 b0 action substitute = tag ∷ 0 ∷ 11 ∷ i ∷ 0 ∷ 0 ∷ 0 ∷ 0 ∷ b3 ∷ b2 ∷ b1 ∷ b0 ∷ action ∷ substitute ∷ []
+
+abbrev check : List ℕ → List Answer → List Held → Check
+check log answers held = record { log = log; answers = answers; held = held }
+
+abbrev holding : ℕ → ℕ → Held
+holding c x = record { container = c; items = x }
+
+-- process 0 maps 24 both ways, process 1 maps 24 to read, 0 reads 25, which holds item 2 (the set 4)
+unfoldable pub shared : List ℕ
+shared =
+    call start 0 0 0 0 ++ call start 1 0 0 0 ++ call create 0 0 0 24 ++ call openName 1 0 0 0 ++ call create 0 1 1 25 ++ call label 0 25 2 0
+    ++ call mapBoth 0 0 0 0 ++ call mapRead 1 0 0 0 ++ call read 0 1 0 0
+
+-- process 0 creates 24 under name 5 with descriptor 0; 24 is labelled with item 1 (the set 2)
+unfoldable pub filed : List ℕ
+filed = call start 0 0 0 0 ++ call create 0 5 0 24 ++ call label 0 24 1 0
+
+unfoldable pub renamed : List ℕ
+renamed = filed ++ call rename 0 5 5 0
+
+-- no item 0 in device 7
+unfoldable pub spare : List ℕ
+spare = setRule 0x11 0 0 0 0 0x80 0 0
+
+unfoldable pub times : List ℕ → List ℕ
+times l = let m = l ++ l ++ l ++ l in m ++ m ++ m ++ m ++ m ++ m ++ m ++ m
+
+unfoldable pub allows : ℕ → List Answer
+allows n = table n (λ k. allow)
+
+unfoldable pub starred : List Check
+starred =
+    -- A: an empty log gives no answers
+    check [] [] []
+    -- C: start 0 twice
+    ∷ check (call start 0 0 0 0 ++ call start 0 0 0 0) (allow ∷ refused 7 ∷ []) []
+    -- D: start 15, start 16
+    ∷ check (call start 15 0 0 0 ++ call start 16 0 0 0) (allow ∷ refused 5 ∷ []) []
+    -- E: create with container 23 or 64; with 24 or 63, free
+    ∷ check
+    (call start 0 0 0 0 ++ call create 0 0 0 23 ++ call create 0 0 0 64 ++ call create 0 0 0 24 ++ call create 0 1 1 63)
+    (allow ∷ refused 5 ∷ refused 5 ∷ allow ∷ allow ∷ [])
+    []
+    -- F: pipe with descriptors 3 and 3, closed, with container 24 free, then with it in use
+    ∷ check (call start 0 0 0 0 ++ call pipe 0 3 3 24 ++ call create 0 0 0 24 ++ call pipe 0 3 3 24) (allow ∷ refused 9 ∷ allow ∷ refused 7 ∷ []) []
+    -- G: 8, 24 and 9 hold 2
+    ∷ check shared (allows 9) (holding 8 4 ∷ holding 24 4 ∷ holding 9 4 ∷ [])
+    -- H: truncate 24: it still holds 2. Process 0 unmaps 24 and truncates again: 24 is empty, 9 holds 2
+    ∷ check (shared ++ call truncate 0 0 0 0) (allows 10) (holding 24 4 ∷ [])
+    ∷ check (shared ++ call truncate 0 0 0 0 ++ call unmap 0 24 0 0 ++ call truncate 0 0 0 0) (allows 12) (holding 24 0 ∷ holding 9 4 ∷ [])
+    -- I: create, label, close: the item stays. Unlink too: 24 is empty and may be created again
+    ∷ check (filed ++ call close 0 0 0 0) (allows 4) (holding 24 2 ∷ [])
+    ∷ check (filed ++ call close 0 0 0 0 ++ call unlink 0 5 0 0) (allows 5) (holding 24 0 ∷ [])
+    ∷ check (filed ++ call close 0 0 0 0 ++ call unlink 0 5 0 0 ++ call create 0 5 0 24) (allows 6) (holding 24 0 ∷ [])
+    -- J: rename of bound 5 to 5
+    ∷ check renamed (allows 4) (holding 24 2 ∷ [])
+    -- K: a rule against item 1 in 24 while it is there; with 32 rules held
+    ∷ check (filed ++ setRule 0x11 1 1 0 0 0 0 0) (allow ∷ allow ∷ allow ∷ refused 12 ∷ []) []
+    ∷ check (times spare ++ spare) (table 32 rule ++ refused 11 ∷ []) []
+    -- L: rule on items 1 and 2; a process holding 1 reads 2
+    ∷ check
+    ((0x12 ∷ 0 ∷ 4 ∷ 1 ∷ 2 ∷ 0 ∷ 0 ∷ []) ++ call start 0 0 0 0 ++ call label 0 8 1 0 ++ call create 0 0 0 24 ++ call label 0 24 2 0 ++ call read 0 0 0 0)
+    (rule 0 ∷ allow ∷ allow ∷ allow ∷ allow ∷ inhibit 0 ∷ [])
+    []
+    -- M: a divert whose substitute 24 isn't in use
+    ∷ check
+    (setRule 0x11 1 0 0 0 2 1 24 ++ call start 0 0 0 0 ++ call label 0 8 1 0 ++ call device 0 0 1 0 ++ call write 0 0 0 0)
+    (rule 0 ∷ allow ∷ allow ∷ allow ∷ inhibit 0 ∷ [])
+    []
+    -- N: a tag 13 hex rule, action 0, allows item 1 only in 24 and 8; process 0 holds it and forks 1
+    ∷ check (setRule 0x13 1 1 0 1 0 0 0 ++ call start 0 0 0 0 ++ call label 0 8 1 0 ++ call fork 0 1 0 0) (rule 0 ∷ allow ∷ allow ∷ inhibit 0 ∷ []) []
+    ∷ []
+
+-- each has its stated outcome; and J changes nothing
+unfoldable pub Starred : Type 0
+Starred = (map outcomeOf starred ≡ starred) × (runLog fresh renamed .state ≡ runLog fresh filed .state)
+
+-- ---- contents do move
+-- a machine that copies what it is given; memory adds up what links in
+unfoldable pub total : List (Linked ℕ) → ℕ
+total [] = 0
+total (x ∷ l) = x .contents + total l
+
+unfoldable pub remembered : ℕ → List (Linked ℕ) → ℕ
+remembered old [] = old
+remembered old (x ∷ l) = x .contents + total l
+
+-- container c alone takes what is given
+unfoldable pub copying : (ℕ → ℕ → ℕ → ℕ) → Machine ℕ
+copying take = record { empty = 0; gift = λ v old n g. take v old g; bothGifts = λ v old n a b. old; fork = λ v old n p. p; memory = λ v old n l. remembered old l }
+
+abbrev step : Kind → ℕ → ℕ → ℕ → ℕ → Step
+step k p a b c = entry (call k p a b c)
+
+-- file 24 is labelled with item 1, process 0 reads it and writes device 1
+unfoldable pub carried : List Step
+carried = step start 0 0 0 0 ∷ step create 0 5 0 24 ∷ step label 0 24 1 0 ∷ step device 0 1 1 0 ∷ step read 0 0 0 0 ∷ step write 0 1 0 0 ∷ []
+
+-- 24 links to process 0 and that to 25; 24 is labelled with item 1, and two memory steps follow
+unfoldable pub chained : List Step
+chained =
+    step start 0 0 0 0
+    ∷ step create 0 0 0 24
+    ∷ step create 0 1 1 25
+    ∷ step mapRead 0 0 0 0
+    ∷ step mapBoth 0 1 0 0
+    ∷ step label 0 24 1 0
+    ∷ memory
+    ∷ memory
+    ∷ []
+
+-- the contents of container c at the end of n steps, where 24 alone takes gifts, or every container does
+abbrev alone : ℕ → List Step → ℕ → ℕ → ℕ
+alone input steps n c = runAt (copying (λ v old g. elim (eqb v 24) [ true ↦ g | false ↦ old ])) (λ k. input) steps n .contents c
+
+abbrev each : ℕ → List Step → ℕ → ℕ → ℕ
+each input steps n c = runAt (copying (λ v old g. g)) (λ k. input) steps n .contents c
+
+-- The contents of device 1, recorded as holding item 1, differ with the input; those of device 2 don't. Where the label's gift changes 24
+-- alone, the first memory step carries it to process 0 (container 8) and the second to 25; both were recorded as holding item 1 before.
+unfoldable pub Moves : Type 0
+Moves =
+    (itemsOf (stateAt carried 6) 1 ≡ 2) × (each 7 carried 6 1 ≡ 7) × (each 9 carried 6 1 ≡ 9) × (each 7 carried 6 2 ≡ 0)
+    × (itemsOf (stateAt chained 6) 25 ≡ 2) × (alone 7 chained 6 8 ≡ 0) × (alone 7 chained 7 8 ≡ 7) × (alone 7 chained 7 25 ≡ 0)
+    × (alone 7 chained 8 25 ≡ 7) × (alone 9 chained 8 25 ≡ 9)

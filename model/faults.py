@@ -1,0 +1,162 @@
+"""Records that are meant to be refused, alone or for several reasons."""
+
+from typing import Optional
+
+from choices import Choices
+from limits import (
+    ACTIONS,
+    CALL_TAG,
+    COMBINATION_TAG,
+    CONTAINERS,
+    DENY_TAG,
+    DEVICES,
+    DUP,
+    ITEMS,
+    KINDS,
+    LIMIT_TAG,
+    LINK,
+    OPEN,
+    PIPE,
+    PROCESSES,
+    RULE_LIMIT,
+    TRUNCATE,
+    VALUE_LENGTHS,
+)
+from proposals import FIELDS, Proposer
+from records import Call, Rule, combination, encode, frame_bytes
+
+# Tags beside the known ones, those of later papers first.
+OTHER_TAGS = [*range(0x14, 0x1C), 0x00, 0x01, 0x0F, 0x1C, 0x20, 0x7F, 0x80, 0x90, 0xFF]
+EDGES = [0, 1, 7, 8, 15, 16, 23, 24, 31, 32, 63, 64, 127, 128, 255]
+
+
+class FaultMaker:
+    """Makes faulty records for the present state; None if a fault has no case."""
+
+    def __init__(self, choices: Choices, proposer: Proposer) -> None:
+        self.choices = choices
+        self.proposer = proposer
+        self.table = [
+            (self.unknown_tag, 2),
+            (self.wrong_length, 2),
+            (self.unknown_kind, 1),
+            (self.flawed_call, 14),
+            (self.taken_and_missing, 2),
+            (self.same_twice, 2),
+            (self.truncated_device, 2),
+            (self.flawed_rule, 4),
+            (self.broken_rule, 2),
+            (self.rule_too_many, 3),
+        ]
+
+    def fault(self) -> Optional[bytes]:
+        """One of the faults."""
+        return self.choices.weighted(self.table)()
+
+    def unknown_tag(self) -> bytes:
+        """A tag that document 01 does not know, of any length."""
+        length = self.choices.pick([0, 1, 3, 4, 5, 11, 64, 260])
+        return frame_bytes(self.choices.pick(OTHER_TAGS), self.choices.data(length))
+
+    def wrong_length(self) -> bytes:
+        """A known tag whose value is too long or too short."""
+        tag = self.choices.pick(sorted(VALUE_LENGTHS))
+        right = VALUE_LENGTHS[tag]
+        wrong = [n for n in (0, 1, 4, 5, right - 1, right + 1, 11, right + 256) if n != right]
+        return frame_bytes(tag, self.choices.data(self.choices.pick(wrong)))
+
+    def unknown_kind(self) -> bytes:
+        """A kind outside 1 to 19, the other fields of any value."""
+        kind = self.choices.pick([0, KINDS[-1] + 1, 255, self.choices.pick(range(20, 256))])
+        return encode(Call(kind, *(self.choices.pick(EDGES) for _ in FIELDS)))
+
+    def flawed_call(self) -> Optional[bytes]:
+        """A call with one to three fields that do not fit the state."""
+        call = self.proposer.call(self.choices.pick(KINDS))
+        if call is None:
+            return None
+        fields = [self.choices.pick(FIELDS) for _ in range(self.choices.pick([1, 1, 2, 3]))]
+        return encode(self.proposer.flawed(call, fields, self.choices.chance(0.25)))
+
+    def taken_and_missing(self) -> Optional[bytes]:
+        """A call whose field a is missing and whose field b is taken."""
+        call = self.proposer.call(self.choices.pick([OPEN, DUP, LINK]))
+        return encode(self.proposer.flawed(call, "ab", False)) if call else None
+
+    def same_twice(self) -> Optional[bytes]:
+        """A pipe or a combination rule whose two fields are equal."""
+        if self.choices.chance(0.4):
+            action, substitute = self.proposer.action()
+            item = self.proposer.item()
+            return encode(combination(item, item, action, substitute))
+        call = self.proposer.call(PIPE)
+        if call is None:
+            return None
+        if self.choices.chance(0.4):
+            call = self.proposer.flawed(call, [self.choices.pick("ac")], False)
+        return encode(call._replace(b=call.a))
+
+    def truncated_device(self) -> Optional[bytes]:
+        """A truncate of a device."""
+        descriptors = self.proposer.state.descriptors
+        found = sorted(key for key, container in descriptors.items() if container in DEVICES)
+        if not found:
+            return None
+        return encode(Call(TRUNCATE, *self.choices.pick(found)))
+
+    def flawed_rule(self) -> Optional[bytes]:
+        """A rule with a wrong action, item or substitute, or several of them."""
+        rule = self.proposer.rule()
+        if rule is None:
+            return None
+        flaws = self.choices.some(["action", "item", "substitute"], 0.5)
+        if "action" in flaws:
+            rule = rule._replace(action=self.choices.pick(range(ACTIONS[-1] + 1, 256)))
+        if "item" in flaws:
+            above = self.choices.pick([ITEMS[-1] + 1, 99, 255])
+            rule = rule._replace(items=(above,) * len(rule.items))
+        if "substitute" in flaws:
+            rule = rule._replace(substitute=self.choices.pick([1, 8, 16, 23, 64, 255]))
+        return encode(rule)
+
+    def broken_rule(self) -> Optional[bytes]:
+        """A rule that the present state breaks."""
+        rule = self.proposer.broken_rule()
+        return encode(rule) if rule else None
+
+    def rule_too_many(self) -> Optional[bytes]:
+        """A rule while no more can be held, sound or with another fault."""
+        if len(self.proposer.state.rules) < RULE_LIMIT:
+            return None
+        held = self.proposer.broken_rule()
+        rules = [self.proposer.harmless_rule(), held, self._equal_items(held)]
+        return encode(self.choices.pick([rule for rule in rules if rule]))
+
+    def mutated(self, record: bytes) -> bytes:
+        """A sound record with one or two bytes of its value changed."""
+        value = bytearray(record[3:])
+        for _ in range(self.choices.pick([1, 1, 2])):
+            value[self.choices.below(len(value))] = self.choices.pick(EDGES)
+        return frame_bytes(record[0], bytes(value))
+
+    def noise(self) -> bytes:
+        """A call or a rule made without a look at the state."""
+        pick = self.choices.pick
+        tag = self.choices.weighted([(CALL_TAG, 6), (DENY_TAG, 1), (LIMIT_TAG, 1)])
+        if tag == CALL_TAG:
+            return encode(Call(pick(KINDS), pick(PROCESSES), *(pick(EDGES) for _ in "abc")))
+        containers = frozenset(self.choices.some(CONTAINERS, 0.5))
+        item = pick([self.proposer.item(), pick(EDGES)])
+        return encode(Rule(tag, (item,), containers, pick([0, 1, 2]), pick([0, pick(EDGES)])))
+
+    def cut(self, following: bytes) -> bytes:
+        """A record that runs past the end, with or without later bytes."""
+        whole = self.choices.pick([following, self.unknown_tag(), self.wrong_length()])
+        if self.choices.chance(0.3):
+            tag = self.choices.pick([*VALUE_LENGTHS, *OTHER_TAGS])
+            return bytes([tag, self.choices.pick([1, 8, 255]), 0]) + following
+        return whole[: 1 + self.choices.below(len(whole) - 1)]
+
+    def _equal_items(self, rule: Optional[Rule]) -> Rule:
+        item = rule.items[0] if rule else self.proposer.item()
+        return Rule(COMBINATION_TAG, (item, item), frozenset(), 0, 0)

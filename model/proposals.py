@@ -1,0 +1,229 @@
+"""Calls and rules proposed for a present state, sound or with chosen flaws."""
+
+from typing import Dict, Iterable, List, Optional, Tuple
+
+from choices import Choices
+from limits import (
+    ACTIONS,
+    CLOSE,
+    COMBINATION_TAG,
+    CONTAINERS,
+    CREATE,
+    DENY_TAG,
+    DESCRIPTORS,
+    DEVICE,
+    DEVICES,
+    DIVERT_ACTION,
+    DUP,
+    EXIT,
+    FILES,
+    FORK,
+    INHIBIT_ACTION,
+    ITEMS,
+    LABEL,
+    LIMIT_TAG,
+    LINK,
+    MAP_BOTH,
+    MAP_READ,
+    NAMES,
+    OPEN,
+    PIPE,
+    PROCESSES,
+    READ,
+    RENAME,
+    START,
+    TRUNCATE,
+    UNLINK,
+    UNMAP,
+    WRITE,
+    process_container,
+)
+from records import Call, Rule, combination, deny, limit
+from tracker import FIELD_RANGES, State, Tracker, substitutes
+
+FIELDS = Call._fields[1:]
+
+# What each field of a call names in the present state.
+ROLES: Dict[int, Tuple[str, str, str, str]] = {
+    START: ("dead process", "zero", "zero", "zero"),
+    OPEN: ("live process", "bound name", "closed descriptor", "zero"),
+    CREATE: ("live process", "unbound name", "closed descriptor", "unused file"),
+    PIPE: ("live process", "closed descriptor", "closed descriptor", "unused file"),
+    DEVICE: ("live process", "closed descriptor", "device", "zero"),
+    DUP: ("live process", "open descriptor", "closed descriptor", "zero"),
+    CLOSE: ("live process", "open descriptor", "zero", "zero"),
+    READ: ("live process", "open descriptor", "zero", "zero"),
+    WRITE: ("live process", "open descriptor", "zero", "zero"),
+    TRUNCATE: ("live process", "file descriptor", "zero", "zero"),
+    MAP_READ: ("live process", "open descriptor", "zero", "zero"),
+    MAP_BOTH: ("live process", "open descriptor", "zero", "zero"),
+    UNMAP: ("live process", "mapped container", "zero", "zero"),
+    UNLINK: ("live process", "bound name", "zero", "zero"),
+    RENAME: ("live process", "bound name", "any name", "zero"),
+    LINK: ("live process", "bound name", "unbound name", "zero"),
+    FORK: ("live process", "dead process", "zero", "zero"),
+    EXIT: ("live process", "zero", "zero", "zero"),
+    LABEL: ("zero", "used container", "item", "zero"),
+}
+
+
+class Proposer:
+    """Proposes calls and rules for the state that a tracker is in."""
+
+    def __init__(self, choices: Choices, tracker: Tracker) -> None:
+        self.choices = choices
+        self.tracker = tracker
+        self.items = [ITEMS[0], ITEMS[-1]] + [choices.pick(ITEMS) for _ in range(5)]
+
+    @property
+    def state(self) -> State:
+        """The present state."""
+        return self.tracker.state
+
+    def live(self) -> List[int]:
+        """The live processes."""
+        return sorted(self.state.live)
+
+    def dead(self) -> List[int]:
+        """The dead processes."""
+        return [process for process in PROCESSES if process not in self.state.live]
+
+    def bound(self) -> List[int]:
+        """The bound names."""
+        return sorted(self.state.names)
+
+    def unbound(self) -> List[int]:
+        """The unbound names."""
+        return [name for name in NAMES if name not in self.state.names]
+
+    def open(self, process: int) -> List[int]:
+        """The open descriptors of a process."""
+        return sorted(d for owner, d in self.state.descriptors if owner == process)
+
+    def closed(self, process: int) -> List[int]:
+        """The closed descriptors of a process."""
+        return [d for d in DESCRIPTORS if (process, d) not in self.state.descriptors]
+
+    def unused_files(self) -> List[int]:
+        """The files and pipes not in use."""
+        used = self.state.used()
+        return [c for c in FILES if c not in used]
+
+    def mapped(self, process: int) -> List[int]:
+        """The containers that have a link from or to a process."""
+        own = process_container(process)
+        ends = {end for pair in self.state.links if own in pair for end in pair}
+        return sorted(ends - {own})
+
+    def file_descriptors(self, process: int) -> List[int]:
+        """The open descriptors of a process that lead to files or pipes."""
+        return [d for d in self.open(process) if self.state.descriptors[process, d] in FILES]
+
+    def fitting(self, role: str, process: int) -> List[int]:
+        """The values that have a role now; descriptors are those of the process."""
+        if role == "zero":
+            return [0]
+        sources = {
+            "live process": self.live,
+            "dead process": self.dead,
+            "bound name": self.bound,
+            "unbound name": self.unbound,
+            "any name": lambda: list(NAMES),
+            "open descriptor": lambda: self.open(process),
+            "closed descriptor": lambda: self.closed(process),
+            "file descriptor": lambda: self.file_descriptors(process),
+            "mapped container": lambda: self.mapped(process),
+            "unused file": self.unused_files,
+            "used container": lambda: sorted(self.state.used()),
+            "device": lambda: list(DEVICES),
+            "item": lambda: self.items,
+        }
+        return sources[role]()
+
+    def call(self, kind: int, process: Optional[int] = None) -> Optional[Call]:
+        """A call that is not refused, or None if the state has none to offer."""
+        if process is None:
+            callers = self.fitting(ROLES[kind][0], 0)
+            if not callers:
+                return None
+            process = self.choices.pick(callers)
+        values = [process]
+        for role in ROLES[kind][1:]:
+            fitting = self.fitting(role, process)
+            if kind == PIPE and role == "closed descriptor":
+                fitting = [d for d in fitting if d not in values[1:]]
+            if not fitting:
+                return None
+            if role in ("item", "used container", "open descriptor"):
+                values.append(self.choices.pick(fitting))
+            else:
+                values.append(self.choices.near(fitting))
+        return Call(kind, *values)
+
+    def flawed(self, call: Call, fields: Iterable[str], outside: bool) -> Call:
+        """The call with some fields in the wrong state or outside their range."""
+        changes = {}
+        for name in fields:
+            index = FIELDS.index(name)
+            allowed = FIELD_RANGES[call.kind][index]
+            fitting = self.fitting(ROLES[call.kind][index], call.process)
+            wrong = [value for value in allowed if value not in fitting]
+            if outside or not wrong:
+                wrong = [value for value in range(256) if value not in allowed]
+                if self.choices.chance(0.5):
+                    wrong = wrong[:1]
+            changes[name] = self.choices.pick(wrong)
+        return call._replace(**changes)
+
+    def item(self) -> int:
+        """An item, mostly one that labels bring in."""
+        return self.choices.pick(self.items if self.choices.chance(0.7) else ITEMS)
+
+    def action(self) -> Tuple[int, int]:
+        """An action with a substitute that it may have."""
+        action = self.choices.pick(ACTIONS)
+        return action, self.choices.pick(sorted(substitutes(action)))
+
+    def rule(self) -> Optional[Rule]:
+        """A rule that the present state keeps, or None."""
+        tag = self.choices.weighted([(DENY_TAG, 5), (COMBINATION_TAG, 2), (LIMIT_TAG, 2)])
+        action, substitute = self.action()
+        item = self.item()
+        holders = self.state.holders(item)
+        if tag == DENY_TAG:
+            free = [c for c in CONTAINERS if c not in holders]
+            denied = self.choices.some(free, self.choices.pick([0.05, 0.2]))
+            return deny(item, denied, action, substitute)
+        if tag == LIMIT_TAG:
+            allowed = self.choices.some(CONTAINERS, 0.9) + holders
+            return limit(item, allowed, action, substitute)
+        apart = [i for i in ITEMS if i != item and not self._meet(item, i)]
+        if not apart:
+            return None
+        return combination(item, self.choices.pick(apart), action, substitute)
+
+    def broken_rule(self) -> Optional[Rule]:
+        """A rule that the present state breaks, or None."""
+        holding = sorted(c for c, items in self.state.items.items() if items)
+        if not holding:
+            return None
+        container = self.choices.pick(holding)
+        held = sorted(self.state.items[container])
+        item = self.choices.pick(held)
+        action, substitute = self.action()
+        if len(held) > 1 and self.choices.chance(0.4):
+            other = self.choices.pick([i for i in held if i != item])
+            return combination(item, other, action, substitute)
+        if self.choices.chance(0.5):
+            outside = [c for c in CONTAINERS if c != container]
+            return limit(item, self.choices.some(outside, 0.5), action, substitute)
+        return deny(item, [container, *self.choices.some(CONTAINERS, 0.1)], action, substitute)
+
+    def harmless_rule(self) -> Rule:
+        """A rule that no state breaks."""
+        if self.choices.chance(0.5):
+            return deny(self.choices.pick(ITEMS), [], INHIBIT_ACTION, 0)
+        return limit(self.choices.pick(ITEMS), CONTAINERS, DIVERT_ACTION, 0)
+
+    def _meet(self, first: int, second: int) -> bool:
+        return any({first, second} <= items for items in self.state.items.values())

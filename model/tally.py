@@ -1,0 +1,123 @@
+"""Counts of what happens in logs."""
+
+from collections import Counter
+from typing import List, Set
+
+from limits import (
+    CALL_TAG,
+    DIVERT_ACTION,
+    EXIT,
+    FILES,
+    FORK,
+    START,
+    TRUNCATE,
+)
+from records import Call, decode_call, decode_rule, read_frame
+from tracker import Answer, State, Tracker, broken_rules, divert_obstacle, frame_refusals, work_out
+
+
+class Tally:
+    """Counts over any number of logs."""
+
+    def __init__(self) -> None:
+        self.records = 0
+        self.words: Counter = Counter()
+        self.refusals: Counter = Counter()
+        self.refused_together: Counter = Counter()  # pairs of refusals of one record
+        self.done_kinds: Counter = Counter()
+        self.rules: Counter = Counter()  # tag and action
+        self.events: Counter = Counter()
+        self.longest_reach = 0  # links between two ends, the shortest way
+        self.longest_gift = 0  # links that an item passed in one call
+
+    def add_log(self, records: List[bytes]) -> None:
+        """Run a log in a fresh tracker and count."""
+        tracker = Tracker()
+        exited_mapped: Set[int] = set()
+        for data in records:
+            before = tracker.state
+            answer, _ = tracker.answer_record(data)
+            self._count_answer(answer, data, before)
+            frame = read_frame(data)
+            if frame is None or answer.word == "refused":
+                continue
+            if frame.tag != CALL_TAG:
+                rule = decode_rule(frame.tag, frame.value)
+                self.rules[frame.tag, rule.action] += 1
+                continue
+            call = decode_call(frame.value)
+            if answer.word == "inhibit":
+                self._count_inhibited(call, answer, before)
+            else:
+                self._count_done(call, before, tracker.state, exited_mapped)
+
+    def _count_answer(self, answer: Answer, data: bytes, before: State) -> None:
+        self.records += 1
+        self.words[answer.word] += 1
+        if answer.word != "refused":
+            return
+        self.refusals[answer.numbers[0]] += 1
+        applying = sorted(frame_refusals(before, read_frame(data)))
+        for first in applying:
+            for second in applying:
+                if first < second:
+                    self.refused_together[first, second] += 1
+
+    def _count_inhibited(self, call: Call, answer: Answer, before: State) -> None:
+        rule = before.rules[answer.numbers[0]]
+        obstacle = divert_obstacle(before, call, rule)
+        self.events[f"inhibit: {obstacle}"] += 1
+        broken = broken_rules(work_out(before, call))
+        if rule.action != DIVERT_ACTION and any(
+            before.rules[number].action == DIVERT_ACTION for number in broken
+        ):
+            self.events["inhibit: a higher broken rule diverts"] += 1
+        if len(broken) > 1:
+            self.events["inhibit: several rules broken"] += 1
+
+    def _count_done(self, call: Call, before: State, after: State, exited: Set[int]) -> None:
+        self.done_kinds[call.kind] += 1
+        self._count_emptied(call, before, after)
+        self._count_processes(call, before, exited)
+        gained = {c for c in after.items if after.items[c] - before.items[c]}
+        if gained and call.kind != FORK:
+            self._count_gift(before, gained)
+        if after.links != before.links:
+            for source in {source for source, _ in after.links}:
+                longest = max(after.distances(source).values())
+                self.longest_reach = max(self.longest_reach, longest)
+
+    def _count_emptied(self, call: Call, before: State, after: State) -> None:
+        emptied = [c for c in FILES if before.items[c] and not after.items[c]]
+        if emptied:
+            self.events[f"emptied by kind {call.kind}"] += 1
+        if call.kind == TRUNCATE and before == after:
+            container = before.descriptors[call.process, call.a]
+            if before.items[container]:
+                self.events["truncate kept items"] += 1
+
+    def _count_processes(self, call: Call, before: State, exited: Set[int]) -> None:
+        mapped = any(call.caller in pair for pair in before.links)
+        if call.kind == FORK and mapped:
+            self.events["fork of a mapped process"] += 1
+        if call.kind == EXIT and mapped:
+            exited.add(call.process)
+        if call.kind == START and call.process in exited:
+            self.events["start again after a mapped exit"] += 1
+
+    def _count_gift(self, before: State, gained: Set[int]) -> None:
+        """Count the links from the container given to, the nearest gainer."""
+        lengths = []
+        for source in gained:
+            distances = before.distances(source)
+            if gained <= set(distances):
+                lengths.append(max(distances[container] for container in gained))
+        self.longest_gift = max(self.longest_gift, *lengths, 0)
+
+    def accepted_share(self) -> float:
+        """The share of records that are not refused."""
+        return 1 - self.words["refused"] / self.records
+
+    def done_share(self) -> float:
+        """The share of records that were allowed, modified or loaded."""
+        return self.accepted_share() - self.words["inhibit"] / self.records

@@ -1,0 +1,109 @@
+"""The command line of the model."""
+
+import os
+import subprocess
+import sys
+import tempfile
+from typing import List, Optional
+
+from checks import Checks, Options
+from generate import generate_records
+from limits import LOG_LIMIT
+from test_runs import RUN_B_INPUT, RUN_B_OUTPUT
+
+COMMAND = [sys.executable, os.path.join(os.path.dirname(os.path.abspath(__file__)), "modelrun")]
+
+
+def command(words: List[str], data: bytes = b"") -> subprocess.CompletedProcess:
+    """Run the command line with standard input."""
+    return subprocess.run(COMMAND + words, input=data, capture_output=True, timeout=60)
+
+
+def check_output(
+    checks: Checks, words: List[str], data: bytes, expected: bytes, status: int = 0
+) -> None:
+    """Check output and exit status."""
+    result = command(words, data)
+    name = "modelrun " + " ".join(words)
+    checks.equal(f"{name}: output", result.stdout, expected)
+    checks.equal(f"{name}: status", result.returncode, status)
+
+
+def test_answers(checks: Checks, options: Options) -> None:
+    check_output(checks, ["answers", "-"], RUN_B_INPUT, RUN_B_OUTPUT.encode())
+    check_output(checks, ["answers", "-"], b"", b"")
+    unknown = b"\x00\x00\x00"
+    longest = unknown * (LOG_LIMIT // 3) + b"\x00"
+    lines = b"refused 2\n" * (LOG_LIMIT // 3) + b"refused 1\n"
+    check_output(checks, ["answers", "-"], longest, lines)
+    check_output(checks, ["answers", "-"], longest + b"\x00", b"log too long\n")
+    with tempfile.NamedTemporaryFile() as file:
+        file.write(RUN_B_INPUT)
+        file.flush()
+        result = command(["answers", file.name])
+        checks.equal("modelrun answers FILE", result.stdout.decode(), RUN_B_OUTPUT)
+
+
+def test_state_and_queries(checks: Checks, options: Options) -> None:
+    state = (
+        "live processes: 0\ncontainer 3 holds: 1\ncontainer 8 holds: 1\ncontainer 24 holds: 1\n"
+        "name 5 -> 24\nprocess 0 descriptor 0 -> 24\nprocess 0 descriptor 1 -> 1\n"
+        "rule 0: item 1 not in: 1; divert to 3\n"
+    )
+    check_output(checks, ["state", "-"], RUN_B_INPUT, state.encode())
+    check_output(checks, ["items", "-", "24"], RUN_B_INPUT, b"0000000000000002 1\n")
+    check_output(checks, ["items", "-", "25"], RUN_B_INPUT, b"0000000000000000\n")
+    check_output(checks, ["holders", "-", "1"], RUN_B_INPUT, b"3 3 8 24\n")
+
+
+def test_generate(checks: Checks, options: Options) -> None:
+    for mix in ("deep", "mixed", "hostile"):
+        words = ["generate", "--seed", "7", "--records", "40", "--mix", mix]
+        records = generate_records(7, 40, mix)
+        check_output(checks, words, b"", b"".join(records))
+        lines = "".join(record.hex() + "\n" for record in records)
+        check_output(checks, [*words, "--hex"], b"", lines.encode())
+
+
+def check_bad(checks: Checks, words: List[str], part: str, data: bytes = b"") -> None:
+    """Check status 2, no output, and a message that has a part in it."""
+    result = command(words, data)
+    name = "modelrun " + " ".join(words)
+    message = result.stderr.decode()
+    checks.equal(f"{name}: status", result.returncode, 2)
+    checks.equal(f"{name}: output", result.stdout, b"")
+    checks.true(f"{name}: message", part in message and "Traceback" not in message, message)
+
+
+def test_bad_input(checks: Checks, options: Options) -> None:
+    check_bad(checks, [], "COMMAND")
+    check_bad(checks, ["unknown"], "answers")
+    check_bad(checks, ["answers"], "FILE")
+    check_bad(checks, ["answers", "/nonexistent/log"], "give a file that can be read")
+    check_bad(checks, ["answers", "/"], "give a file that can be read")
+    check_bad(checks, ["answers", "a\0b".replace("\0", "\x01")], "give a file that can be read")
+    check_bad(checks, ["items", "-", "64"], "from 0 to 63")
+    check_bad(checks, ["items", "-", "x"], "from 0 to 63")
+    check_bad(checks, ["holders", "-", "-1"], "")
+    check_bad(checks, ["holders", "-", "9" * 5000], "from 0 to 63")
+    check_bad(checks, ["state", "-"], "at most 65536 bytes", bytes(LOG_LIMIT + 1))
+    check_bad(checks, ["generate", "--seed", "-1"], "from 0 to")
+    check_bad(checks, ["generate", "--records", "100001"], "from 0 to 100000")
+    check_bad(checks, ["generate", "--mix", "other"], "hostile")
+
+
+def run_with_closed_output(words: List[str]) -> Optional[str]:
+    """Run a command whose output nobody reads; its error output."""
+    reader, writer = os.pipe()
+    os.close(reader)
+    result = subprocess.run(COMMAND + words, stdout=writer, stderr=subprocess.PIPE, timeout=60)
+    os.close(writer)
+    return result.stderr.decode()
+
+
+def test_closed_output(checks: Checks, options: Options) -> None:
+    for words in (["generate", "--hex"], ["generate"], ["--help"]):
+        checks.equal(f"closed output: {words}", run_with_closed_output(words), "")
+    result = command(["--help"])
+    checks.equal("--help: status", result.returncode, 0)
+    checks.true("--help: names the commands", b"generate" in result.stdout)

@@ -1,0 +1,525 @@
+"""The tracker of document 01 as plain sets, dictionaries and graph search.
+
+A State is never changed once it is in a Tracker: each accepted record puts a
+new State in its place, so a caller may keep an earlier one.
+"""
+
+from dataclasses import dataclass, field
+from typing import Callable, Dict, FrozenSet, List, NamedTuple, Optional, Set, Tuple, Union
+
+from limits import (
+    ACTIONS,
+    BROKEN_ALREADY,
+    CALL_TAG,
+    CLOSE,
+    COMBINATION_TAG,
+    CONTAINERS,
+    CREATE,
+    CUT_SHORT,
+    DEAD_PROCESS,
+    DENY_TAG,
+    DESCRIPTORS,
+    DEVICE,
+    DEVICES,
+    DIVERT_ACTION,
+    DUP,
+    EXIT,
+    FILES,
+    FORK,
+    ITEMS,
+    KINDS,
+    LABEL,
+    LINK,
+    MAP_BOTH,
+    MAP_READ,
+    MISSING,
+    NAMES,
+    NO_FILE,
+    OPEN,
+    OUT_OF_RANGE,
+    PIPE,
+    PROCESSES,
+    READ,
+    REFUSAL_ORDER,
+    RENAME,
+    RULE_LIMIT,
+    RULES_FULL,
+    SAME_TWICE,
+    SLICE_SHORT,
+    START,
+    TAKEN,
+    TRUNCATE,
+    UNKNOWN_KIND,
+    UNKNOWN_TAG,
+    UNLINK,
+    UNMAP,
+    VALUE_LENGTHS,
+    WRITE,
+    WRONG_LENGTH,
+    process_container,
+)
+from records import Call, Frame, Rule, decode_call, decode_rule, read_frame
+
+NO_ITEMS: FrozenSet[int] = frozenset()
+
+
+class Answer(NamedTuple):
+    """What a record gets: a word and its numbers."""
+
+    word: str
+    numbers: Tuple[int, ...] = ()
+
+    def __str__(self) -> str:
+        return " ".join([self.word, *map(str, self.numbers)])
+
+
+ALLOW = Answer("allow")
+
+
+def refused(number: int) -> Answer:
+    """The answer of a refusal."""
+    return Answer("refused", (number,))
+
+
+@dataclass
+class State:
+    """Storage, links, naming, live processes and rules."""
+
+    live: Set[int] = field(default_factory=set)
+    items: Dict[int, FrozenSet[int]] = field(
+        default_factory=lambda: dict.fromkeys(CONTAINERS, NO_ITEMS)
+    )
+    links: Set[Tuple[int, int]] = field(default_factory=set)
+    names: Dict[int, int] = field(default_factory=dict)
+    descriptors: Dict[Tuple[int, int], int] = field(default_factory=dict)
+    rules: List[Rule] = field(default_factory=list)
+
+    def copy(self) -> "State":
+        """A state that can be changed without changing this one."""
+        return State(
+            set(self.live),
+            dict(self.items),
+            set(self.links),
+            dict(self.names),
+            dict(self.descriptors),
+            list(self.rules),
+        )
+
+    def used(self) -> Set[int]:
+        """The containers in use."""
+        found = set(DEVICES)
+        found.update(process_container(process) for process in self.live)
+        found.update(self.names.values())
+        found.update(self.descriptors.values())
+        for pair in self.links:
+            found.update(pair)
+        return found
+
+    def distances(self, container: int) -> Dict[int, int]:
+        """Each container in the reach, with the fewest links that lead to it."""
+        targets: Dict[int, List[int]] = {}
+        for source, target in self.links:
+            targets.setdefault(source, []).append(target)
+        found = {container: 0}
+        queue = [container]
+        for source in queue:
+            for target in targets.get(source, []):
+                if target not in found:
+                    found[target] = found[source] + 1
+                    queue.append(target)
+        return found
+
+    def reach(self, container: int) -> Set[int]:
+        """The container and everything that links lead to from it."""
+        return set(self.distances(container))
+
+    def is_fed(self, container: int) -> bool:
+        """Whether a link leads into the container."""
+        return any(target == container for _, target in self.links)
+
+    def holders(self, item: int) -> List[int]:
+        """The containers that hold an item, in rising order."""
+        return [c for c in CONTAINERS if item in self.items[c]]
+
+    def give(self, container: int, given: FrozenSet[int]) -> None:
+        """Add the items to everything in the container's reach."""
+        for receiver in self.reach(container):
+            self.items[receiver] |= given
+
+    def empty_unused(self) -> None:
+        """Empty the files and pipes that are not in use."""
+        for container in set(FILES) - self.used():
+            self.items[container] = NO_ITEMS
+
+
+# Effects of the calls: document 01, The records. Each changes the state given.
+
+
+def _start(state: State, call: Call) -> None:
+    state.live.add(call.process)
+    state.items[call.caller] = NO_ITEMS
+
+
+def _open(state: State, call: Call) -> None:
+    state.descriptors[call.process, call.b] = state.names[call.a]
+
+
+def _create(state: State, call: Call) -> None:
+    state.names[call.a] = call.c
+    state.descriptors[call.process, call.b] = call.c
+    state.items[call.c] = NO_ITEMS
+
+
+def _pipe(state: State, call: Call) -> None:
+    state.descriptors[call.process, call.a] = call.c
+    state.descriptors[call.process, call.b] = call.c
+    state.items[call.c] = NO_ITEMS
+
+
+def _device(state: State, call: Call) -> None:
+    state.descriptors[call.process, call.a] = call.b
+
+
+def _dup(state: State, call: Call) -> None:
+    state.descriptors[call.process, call.b] = state.descriptors[call.process, call.a]
+
+
+def _close(state: State, call: Call) -> None:
+    del state.descriptors[call.process, call.a]
+
+
+def _read(state: State, call: Call) -> None:
+    container = state.descriptors[call.process, call.a]
+    state.give(call.caller, state.items[container])
+
+
+def _write(state: State, call: Call) -> None:
+    container = state.descriptors[call.process, call.a]
+    state.give(container, state.items[call.caller])
+
+
+def _truncate(state: State, call: Call) -> None:
+    container = state.descriptors[call.process, call.a]
+    if not state.is_fed(container):
+        state.items[container] = NO_ITEMS
+
+
+def _map_read(state: State, call: Call) -> None:
+    container = state.descriptors[call.process, call.a]
+    _read(state, call)
+    state.links.add((container, call.caller))
+
+
+def _map_both(state: State, call: Call) -> None:
+    container = state.descriptors[call.process, call.a]
+    from_container = state.items[container]
+    from_process = state.items[call.caller]
+    state.give(call.caller, from_container)
+    state.give(container, from_process)
+    state.links.update([(container, call.caller), (call.caller, container)])
+
+
+def _unmap(state: State, call: Call) -> None:
+    state.links -= {(call.a, call.caller), (call.caller, call.a)}
+
+
+def _unlink(state: State, call: Call) -> None:
+    del state.names[call.a]
+
+
+def _rename(state: State, call: Call) -> None:
+    if call.a != call.b:
+        state.names[call.b] = state.names.pop(call.a)
+
+
+def _link(state: State, call: Call) -> None:
+    state.names[call.b] = state.names[call.a]
+
+
+def _fork(state: State, call: Call) -> None:
+    child = process_container(call.a)
+    state.live.add(call.a)
+    state.items[child] = state.items[call.caller]
+    for (process, descriptor), container in list(state.descriptors.items()):
+        if process == call.process:
+            state.descriptors[call.a, descriptor] = container
+    for source, target in list(state.links):
+        if source == call.caller:
+            state.links.add((child, target))
+        if target == call.caller:
+            state.links.add((source, child))
+
+
+def _exit(state: State, call: Call) -> None:
+    state.live.remove(call.process)
+    state.items[call.caller] = NO_ITEMS
+    state.links = {pair for pair in state.links if call.caller not in pair}
+    state.descriptors = {
+        key: container for key, container in state.descriptors.items() if key[0] != call.process
+    }
+
+
+def _label(state: State, call: Call) -> None:
+    state.give(call.a, frozenset([call.b]))
+
+
+EFFECTS: Dict[int, Callable[[State, Call], None]] = {
+    START: _start,
+    OPEN: _open,
+    CREATE: _create,
+    PIPE: _pipe,
+    DEVICE: _device,
+    DUP: _dup,
+    CLOSE: _close,
+    READ: _read,
+    WRITE: _write,
+    TRUNCATE: _truncate,
+    MAP_READ: _map_read,
+    MAP_BOTH: _map_both,
+    UNMAP: _unmap,
+    UNLINK: _unlink,
+    RENAME: _rename,
+    LINK: _link,
+    FORK: _fork,
+    EXIT: _exit,
+    LABEL: _label,
+}
+
+
+def work_out(state: State, call: Call) -> State:
+    """The state after a call that is not refused, before any rule is judged."""
+    after = state.copy()
+    EFFECTS[call.kind](after, call)
+    after.empty_unused()
+    return after
+
+
+# Refusals: document 01, What a record gets. All that apply are collected.
+
+UNUSED = range(0, 1)
+FIELD_RANGES: Dict[int, Tuple[range, range, range, range]] = {
+    START: (PROCESSES, UNUSED, UNUSED, UNUSED),
+    OPEN: (PROCESSES, NAMES, DESCRIPTORS, UNUSED),
+    CREATE: (PROCESSES, NAMES, DESCRIPTORS, FILES),
+    PIPE: (PROCESSES, DESCRIPTORS, DESCRIPTORS, FILES),
+    DEVICE: (PROCESSES, DESCRIPTORS, DEVICES, UNUSED),
+    DUP: (PROCESSES, DESCRIPTORS, DESCRIPTORS, UNUSED),
+    CLOSE: (PROCESSES, DESCRIPTORS, UNUSED, UNUSED),
+    READ: (PROCESSES, DESCRIPTORS, UNUSED, UNUSED),
+    WRITE: (PROCESSES, DESCRIPTORS, UNUSED, UNUSED),
+    TRUNCATE: (PROCESSES, DESCRIPTORS, UNUSED, UNUSED),
+    MAP_READ: (PROCESSES, DESCRIPTORS, UNUSED, UNUSED),
+    MAP_BOTH: (PROCESSES, DESCRIPTORS, UNUSED, UNUSED),
+    UNMAP: (PROCESSES, CONTAINERS, UNUSED, UNUSED),
+    UNLINK: (PROCESSES, NAMES, UNUSED, UNUSED),
+    RENAME: (PROCESSES, NAMES, NAMES, UNUSED),
+    LINK: (PROCESSES, NAMES, NAMES, UNUSED),
+    FORK: (PROCESSES, PROCESSES, UNUSED, UNUSED),
+    EXIT: (PROCESSES, UNUSED, UNUSED, UNUSED),
+    LABEL: (UNUSED, CONTAINERS, ITEMS, UNUSED),
+}
+
+# Row 7, taken: the fields that must name something free.
+NEW_PROCESS = {START: "process", FORK: "a"}
+NEW_DESCRIPTORS = {OPEN: "b", CREATE: "b", PIPE: "ab", DEVICE: "a", DUP: "b"}
+NEW_NAME = {CREATE: "a", LINK: "b"}
+NEW_CONTAINER = {CREATE: "c", PIPE: "c"}
+
+# Row 8, missing: the kinds whose field a must name something present.
+NEEDS_DESCRIPTOR = (DUP, CLOSE, READ, WRITE, TRUNCATE, MAP_READ, MAP_BOTH)
+NEEDS_NAME = (OPEN, UNLINK, RENAME, LINK)
+
+# Row 6, dead process: the kinds without a calling process.
+NEEDS_NO_CALLER = (START, LABEL)
+
+
+def is_taken(state: State, call: Call) -> bool:
+    """Whether row 7 applies."""
+    kind = call.kind
+    if kind in NEW_PROCESS and getattr(call, NEW_PROCESS[kind]) in state.live:
+        return True
+    for name in NEW_DESCRIPTORS.get(kind, ""):
+        if (call.process, getattr(call, name)) in state.descriptors:
+            return True
+    if kind in NEW_NAME and getattr(call, NEW_NAME[kind]) in state.names:
+        return True
+    return kind in NEW_CONTAINER and getattr(call, NEW_CONTAINER[kind]) in state.used()
+
+
+def is_missing(state: State, call: Call) -> bool:
+    """Whether row 8 applies."""
+    if call.kind in NEEDS_DESCRIPTOR:
+        return (call.process, call.a) not in state.descriptors
+    if call.kind in NEEDS_NAME:
+        return call.a not in state.names
+    if call.kind == UNMAP:
+        return not {(call.a, call.caller), (call.caller, call.a)} & state.links
+    return call.kind == LABEL and call.a not in state.used()
+
+
+def call_refusals(state: State, call: Call) -> Set[int]:
+    """The refusals that apply to a call."""
+    if call.kind not in KINDS:
+        return {UNKNOWN_KIND}
+    found = set()
+    if any(value not in allowed for value, allowed in zip(call[1:], FIELD_RANGES[call.kind])):
+        found.add(OUT_OF_RANGE)
+    if call.kind not in NEEDS_NO_CALLER and call.process not in state.live:
+        found.add(DEAD_PROCESS)
+    if is_taken(state, call):
+        found.add(TAKEN)
+    if is_missing(state, call):
+        found.add(MISSING)
+    if call.kind == PIPE and call.a == call.b:
+        found.add(SAME_TWICE)
+    if call.kind == TRUNCATE and state.descriptors.get((call.process, call.a)) in DEVICES:
+        found.add(NO_FILE)
+    return found
+
+
+def substitutes(action: int) -> Set[int]:
+    """The substitutes that an action may have."""
+    return {*DEVICES, *FILES} if action == DIVERT_ACTION else {0}
+
+
+def rule_refusals(state: State, rule: Rule) -> Set[int]:
+    """The refusals that apply to a rule."""
+    found = set()
+    if rule.action not in ACTIONS:
+        found.add(UNKNOWN_KIND)
+    if rule.substitute not in substitutes(rule.action) or not set(rule.items) <= set(ITEMS):
+        found.add(OUT_OF_RANGE)
+    if rule.tag == COMBINATION_TAG and rule.items[0] == rule.items[1]:
+        found.add(SAME_TWICE)
+    if len(state.rules) >= RULE_LIMIT:
+        found.add(RULES_FULL)
+    if is_broken(state, rule):
+        found.add(BROKEN_ALREADY)
+    return found
+
+
+def frame_refusals(state: State, frame: Optional[Frame]) -> Set[int]:
+    """The refusals that apply to a measured record."""
+    if frame is None:
+        return {CUT_SHORT}
+    if frame.tag not in VALUE_LENGTHS:
+        return {UNKNOWN_TAG}
+    if len(frame.value) != VALUE_LENGTHS[frame.tag]:
+        return {WRONG_LENGTH}
+    if frame.tag == CALL_TAG:
+        return call_refusals(state, decode_call(frame.value))
+    return rule_refusals(state, decode_rule(frame.tag, frame.value))
+
+
+def first_refusal(numbers: Set[int]) -> int:
+    """The one number that is answered when several apply."""
+    return next(number for number in REFUSAL_ORDER if number in numbers)
+
+
+# Rules and verdicts: document 01, What a record gets.
+
+
+def is_broken(state: State, rule: Rule) -> bool:
+    """Whether the state breaks the rule."""
+    if rule.tag == COMBINATION_TAG:
+        return any(set(rule.items) <= held for held in state.items.values())
+    item = rule.items[0]
+    return any(forbids(rule, container, item) for container in state.holders(item))
+
+
+def forbids(rule: Rule, container: int, item: int) -> bool:
+    """Whether the rule forbids the container the item, that item alone."""
+    if rule.tag == COMBINATION_TAG or rule.items[0] != item:
+        return False
+    return (container in rule.containers) == (rule.tag == DENY_TAG)
+
+
+def broken_rules(state: State) -> List[int]:
+    """The numbers of the rules that the state breaks, in rising order."""
+    return [number for number, rule in enumerate(state.rules) if is_broken(state, rule)]
+
+
+def divert(state: State, call: Call, rule: Rule) -> State:
+    """The state after writing to the rule's substitute instead."""
+    after = state.copy()
+    after.give(rule.substitute, state.items[call.caller])
+    return after
+
+
+def divert_obstacle(state: State, call: Call, rule: Rule) -> Optional[str]:
+    """Why a call that breaks this rule cannot be diverted; None if it can."""
+    if rule.action != DIVERT_ACTION:
+        return "action inhibits"
+    if call.kind != WRITE:
+        return "not a write"
+    if rule.substitute not in state.used():
+        return "substitute not in use"
+    if broken_rules(divert(state, call, rule)):
+        return "diverted write breaks a rule"
+    return None
+
+
+def judge(state: State, call: Call) -> Tuple[Answer, State]:
+    """The verdict on a call that is not refused, and the state after it."""
+    after = work_out(state, call)
+    broken = broken_rules(after)
+    if not broken:
+        return ALLOW, after
+    rule = state.rules[broken[0]]
+    if divert_obstacle(state, call, rule) is None:
+        return Answer("modify", (broken[0], rule.substitute)), divert(state, call, rule)
+    return Answer("inhibit", (broken[0],)), state
+
+
+def load_rule(state: State, rule: Rule) -> Tuple[Answer, State]:
+    """The answer to a rule that is not refused, and the state after it."""
+    after = state.copy()
+    after.rules.append(rule)
+    return Answer("rule", (len(state.rules),)), after
+
+
+class Tracker:
+    """One tracker, changed by records and asked by queries."""
+
+    def __init__(self) -> None:
+        self.state = State()
+
+    def answer_record(self, log: bytes, position: int = 0) -> Tuple[Answer, Optional[int]]:
+        """Answer the record at a position of a log.
+
+        Also gives the position of the next record, or None when reading ends.
+        """
+        frame = read_frame(log, position)
+        refusals = frame_refusals(self.state, frame)
+        if frame is None or refusals:
+            return refused(first_refusal(refusals)), frame.end if frame else None
+        if frame.tag == CALL_TAG:
+            answer, self.state = judge(self.state, decode_call(frame.value))
+        else:
+            answer, self.state = load_rule(self.state, decode_rule(frame.tag, frame.value))
+        return answer, frame.end
+
+    def run_log(self, log: bytes) -> List[Answer]:
+        """Answer the records of a log, one after the other."""
+        answers = []
+        position: Optional[int] = 0
+        while position is not None and position < len(log):
+            answer, position = self.answer_record(log, position)
+            answers.append(answer)
+        return answers
+
+    def query_items(self, container: int) -> Union[int, Answer]:
+        """The items of a container as a 64-bit set, or a refusal."""
+        if container not in CONTAINERS:
+            return refused(OUT_OF_RANGE)
+        return sum(1 << item for item in self.state.items[container])
+
+    def query_holders(self, item: int, lent: List[int]) -> Union[int, Answer]:
+        """Put an item's holders at the front of a lent list; answer how many."""
+        if item not in ITEMS:
+            return refused(OUT_OF_RANGE)
+        holders = self.state.holders(item)
+        if len(lent) < len(holders):
+            return refused(SLICE_SHORT)
+        lent[: len(holders)] = holders
+        return len(holders)
