@@ -103,7 +103,7 @@ module _ (s : State) (k : Linking s) (p a b c : ℕ) where
   alive kind e h = not-false (has (s .live) p) (sym e ∙ h .lives)
 
   -- ---- the links after each call
-  linking-fork : a < 16 → Linking (tablesBy s p a b c fork)
+  pub linking-fork : a < 16 → Linking (tablesBy s p a b c fork)
   unfolding tablesBy withLive withDescriptors withLinks
   linking-fork l = record { feeders = one (s .feeders) _ (k .feeders) (row-in p); fed = one (s .fed) _ (k .fed) (row-out p) }
     where

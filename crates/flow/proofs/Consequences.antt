@@ -18,7 +18,7 @@ use Rattle.flow.specs.Contents.{Step, entry, memory, stepState, stateAt}
 use Rattle.flow.specs.Consequences.{KindsNumbered, PassedBreaksNone, NoGainAllowed, StoppedKeeps, OneAnswerEach, LogIsSteps}
 use Rattle.flow.proofs.Bools.{choice}
 use Rattle.flow.proofs.Outcomes.{none-is, rules-kept}
-use Rattle.flow.proofs.Keeping.{none-broken}
+use Rattle.flow.proofs.Judging.{none-broken}
 
 pub kinds-numbered : KindsNumbered
 unfolding KindsNumbered kindOf kindNumber

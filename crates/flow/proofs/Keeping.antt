@@ -18,6 +18,7 @@ use Rattle.flow.specs.Contents.{Step, entry, memory, stepState, stepAt, 
 use Rattle.flow.specs.Kept.{wellFormed, allWellFormed, Kept, EveryRecordKeeps}
 use Rattle.flow.proofs.Bools.{and-l, and-r, and-i, by, no-both}
 use Rattle.flow.proofs.TableLaws.{none-of, none-below}
+use Rattle.flow.proofs.Judging.{none-broken, one-more}
 use Rattle.flow.proofs.Reach.{reach-exact}
 use Rattle.flow.proofs.Rows.{Rows, row-none}
 use Rattle.flow.proofs.Use.{linked-used, linked-joins, fed-row}
@@ -77,49 +78,6 @@ made-kept s q x k m =
     }
 
 -- ---- a rule
-none-not-some : {x : Numbered} {A : Type 0} → some x ≡ none → A
-none-not-some e = absurd (let z : _≡_ {A = ℕ} 0 1 = cc in let y : ⊥ = omega arith in y)
-
--- no rule of the list is broken: neither the first nor any other
-pub first-whole : (s : State) (k : ℕ) (r : Rule) (rs : List Rule) → firstBroken s k (r ∷ rs) ≡ none → (broken s r ≡ false) × (firstBroken s (suc k) rs ≡ none)
-unfolding firstBroken
-first-whole s k r rs = go (broken s r)
-  where
-    go : (b : Bool) → _≡_ {A = Option Numbered} (elim b as (λ z. Option Numbered) [ true ↦ some (record { number = k; rule = r }) | false ↦ firstBroken s (suc k) rs ]) none
-        → (b ≡ false) × (firstBroken s (suc k) rs ≡ none)
-    go true e = none-not-some e
-    go false e = (refl, e)
-
-pub more-whole : (s : State) (k : ℕ) (r : Rule) (rs : List Rule) → broken s r ≡ false → firstBroken s (suc k) rs ≡ none → firstBroken s k (r ∷ rs) ≡ none
-unfolding firstBroken
-more-whole s k r rs e f = rw (e, firstBroken) f
-
--- ---- where less is held, no more is broken
-module _ (s t : State) (less : (v i : ℕ) → v < 64 → holds s v i ≡ true → holds t v i ≡ true) where
-  breaks-more : (c : Condition) (v : ℕ) → v < 64 → breaks s c v ≡ true → breaks t c v ≡ true
-  unfolding breaks
-  breaks-more (forbid i x) v h e = and-i (holds t v i) _ (less v i h (and-l _ (has x v) e)) (and-r (holds s v i) _ e)
-  breaks-more (separate i j) v h e = and-i (holds t v i) _ (less v i h (and-l _ (holds s v j) e)) (less v j h (and-r (holds s v i) _ e))
-  breaks-more (confine i x) v h e = and-i (holds t v i) _ (less v i h (and-l _ (not (has x v)) e)) (and-r (holds s v i) _ e)
-
-  pub fewer-broken : (r : Rule) → broken t r ≡ false → broken s r ≡ false
-  unfolding broken
-  fewer-broken r e =
-      none-below 64 _
-      (λ v h. by (breaks s (r .condition) v) (λ f. no-both (breaks-more (r .condition) v h f) (none-of 64 (breaks t (r .condition)) v e h)) (λ f. f))
-
-  pub none-broken : (k : ℕ) (rs : List Rule) → firstBroken t k rs ≡ none → firstBroken s k rs ≡ none
-  unfolding firstBroken
-  none-broken k [] e = refl
-  none-broken k (r ∷ rs) e =
-      let w = first-whole t k r rs e in
-      more-whole s k r rs (fewer-broken r (w .0)) (none-broken (suc k) rs (w .1))
-
-one-more : (s : State) (k : ℕ) (rs : List Rule) (x : Rule) → firstBroken s k rs ≡ none → broken s x ≡ false → firstBroken s k (rs ++ (x ∷ [])) ≡ none
-unfolding firstBroken
-one-more s k [] x e f = more-whole s k x [] f refl
-one-more s k (r ∷ rs) x e f = let w = first-whole s k r rs e in more-whole s k r (rs ++ (x ∷ [])) (w .0) (one-more s (suc k) rs x (w .1) f)
-
 one-formed : (rs : List Rule) (x : Rule) → allWellFormed rs ≡ true → wellFormed x ≡ true → allWellFormed (rs ++ (x ∷ [])) ≡ true
 unfolding allWellFormed
 one-formed [] x e f = and-i (wellFormed x) true f refl

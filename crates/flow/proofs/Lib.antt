@@ -1,5 +1,8 @@
 pub mod Bools
 pub mod TableLaws
+pub mod Refused
+pub mod Logs
+pub mod Judging
 pub mod Reach
 pub mod Rows
 pub mod Use
@@ -13,3 +16,4 @@ pub mod TwoRuns
 pub mod Exact
 pub mod Runs
 pub mod Consequences
+pub mod Fork

@@ -13,14 +13,16 @@ use Rattle.flow.specs.Tables.{Test, _⇒_}
 use Rattle.flow.specs.Box.{own, leads, Rule, State, descriptor}
 use Rattle.flow.specs.Links.{used}
 use Rattle.flow.specs.Calls.{Kind, start, openName, create, pipe, device, dup, close, read, write, truncate, mapRead, mapBoth, unmap, unlink, rename, link, fork, exit, label, kindNumber, Call, Flow, still, gift, arrival, exchange, copy, clear, withLive, withDescriptors, withNames, withLinks, isFed, tablesBy, flowBy, Change, change, withItems, emptyUnused, after}
-use Rattle.flow.specs.Rules.{broken, Numbered, firstBroken, lowestBroken}
+use Rattle.flow.specs.Rules.{broken, Numbered, lowestBroken}
 use Rattle.flow.specs.Records.{tagOf, callTag, cutShort, wrongLength, callOf, ruleOf}
 use Rattle.flow.specs.Refusals.{inRange, ranges, fieldsFit, isLive, dead, taken, missing, sameDescriptors, noFile, itemsFit, substituteFits, sameItems, callTests, ruleTests, testsByTag, recordTests, refusal}
 use Rattle.flow.specs.Verdicts.{Outcome, refuses, loads, allows, inhibits, modifies, diversion, mayDivert, breaksNone, stopped, verdictBy, verdict, accepted, outcomeBy, outcome}
 use Rattle.flow.specs.Contents.{labelOf}
 use Rattle.flow.specs.Kept.{wellFormed, allWellFormed}
+use Rattle.flow.specs.Consequences.{LowestIn, this, past}
 use Rattle.flow.proofs.Bools.{and-l, and-r, and-i, by, no-both, choice, chosen-r}
 use Rattle.flow.proofs.TableLaws.{AllFalse, all-false}
+use Rattle.flow.proofs.Judging.{lowest-in}
 use Rattle.flow.proofs.Rows.{leads-lt}
 use Rattle.flow.proofs.Use.{used-process}
 use Rattle.flow.proofs.Moves.{Fit}
@@ -131,15 +133,10 @@ writer-lt exit p e h = no-both e refl
 writer-lt label p e h = no-both e refl
 
 -- the lowest broken rule is one of the list
-broken-fits : (u : State) (n : ℕ) (rs : List Rule) (x : Numbered) → allWellFormed rs ≡ true → firstBroken u n rs ≡ some x → wellFormed (x .rule) ≡ true
-unfolding firstBroken allWellFormed
-broken-fits u n [] x w e = cc
-broken-fits u n (r ∷ rs) x w e = go (broken u r) (broken-fits u (suc n) rs x (and-r (wellFormed r) _ w)) e
-  where
-    go : (b : Bool) → (firstBroken u (suc n) rs ≡ some x → wellFormed (x .rule) ≡ true)
-        → _≡_ {A = Option Numbered} (elim b as (λ z. Option Numbered) [ true ↦ some (record { number = n; rule = r }) | false ↦ firstBroken u (suc n) rs ]) (some x) → wellFormed (x .rule) ≡ true
-    go true f e = let q : x .rule ≡ r = cc in rw q (and-l _ (allWellFormed rs) w)
-    go false f e = f e
+broken-fits : (u : State) (n : ℕ) (rs : List Rule) (x : Numbered) → allWellFormed rs ≡ true → LowestIn u x n rs → wellFormed (x .rule) ≡ true
+unfolding allWellFormed
+broken-fits u n (r ∷ rs) x w (this b e) = rw e (and-l _ (allWellFormed rs) w)
+broken-fits u n (r ∷ rs) x w (past b l) = broken-fits u (suc n) rs x (and-r (wellFormed r) _ w) l
 
 substitute-leads : (r : Rule) → wellFormed r ≡ true → eqb (r .action) 1 ≡ true → leads (r .substitute) ≡ true
 unfolding wellFormed substituteFits
@@ -196,7 +193,7 @@ module _ (s : State) (k : Linking s) (t : Entries s) where
   unfolding verdictBy Sound lowestBroken
   verdict-sound q none h e w = change-made q h e
   verdict-sound q (some x) h e w =
-      stopped-sound q (x .number) (x .rule) h (broken-fits (after s (change s q)) 0 (after s (change s q) .rules) x (rw (rules-kept s q) w) e)
+      stopped-sound q (x .number) (x .rule) h (broken-fits (after s (change s q)) 0 (after s (change s q) .rules) x (rw (rules-kept s q) w) (lowest-in (after s (change s q)) 0 _ x e))
 
   -- ---- a record
   accepted-call : (q : Call) → AllFalse (callTests s (some q)) → Accepted s q

@@ -142,11 +142,11 @@ module _ (s : State) where
   -- nothing is in the reach but what links lead to
   pub reach-leads : (u v : ℕ) → has (reach s u) v ≡ true → Leads s u v
   unfolding reach
-  reach-leads u v h = settle-leads u 64 (only u) (λ w k. rw (← (eqb-true u w (sym (only-has u w) ∙ k))) here) v h
+  reach-leads u v h = settle-leads u _ (only u) (λ w k. rw (← (eqb-true u w (sym (only-has u w) ∙ k))) here) v h
 
   pub reach-here : (u : ℕ) → has (reach s u) u ≡ true
   unfolding reach
-  reach-here u = settle-keeps 64 (only u) u (only-has u u ∙ eq-eqb u u refl)
+  reach-here u = settle-keeps _ (only u) u (only-has u u ∙ eq-eqb u u refl)
 
   -- ---- each turn but the last adds a container
   module _ (bound : (p : ℕ) → fedBy s p < 2 ^ 64) where
@@ -168,7 +168,7 @@ module _ (s : State) where
 
     pub reach-lt : (u : ℕ) → u < 64 → reach s u < 2 ^ 64
     unfolding reach
-    reach-lt u h = settle-lt 64 (only u) (only-lt u h)
+    reach-lt u h = settle-lt _ (only u) (only-lt u h)
 
     settled : (n x : ℕ) → x < 2 ^ 64 → 64 < n + count x → follow s 16 (settle s n x) ≡ settle s n x
     unfolding settle
@@ -186,7 +186,7 @@ module _ (s : State) where
 
     reach-settled : (u : ℕ) → u < 64 → follow s 16 (reach s u) ≡ reach s u
     unfolding reach
-    reach-settled u h = settled 64 (only u) (only-lt u h) (let k : 0 < count (only u) = counted u h in omega arith)
+    reach-settled u h = settled _ (only u) (only-lt u h) (let k : 0 < count (only u) = counted u h in omega arith)
 
     -- the reach goes on along links
     pub reach-onward : (u v w : ℕ) → u < 64 → has (reach s u) v ≡ true → linked s v w ≡ true → has (reach s u) w ≡ true

@@ -23,10 +23,11 @@ use Rattle.flow.specs.Contents.{Step, entry, memory, Linked, Machine, fl
 use Rattle.flow.specs.TwoRuns.{Clean, Forbidden, first, later, Barred, Agree, Demand3}
 use Rattle.flow.proofs.Bools.{or-r, and-l, and-r, and-i, or-false-l, or-false-r, and-false-l, and-false-r, by, no-both, choices, chosen-l}
 use Rattle.flow.proofs.TableLaws.{none-of}
+use Rattle.flow.proofs.Judging.{first-whole}
 use Rattle.flow.proofs.Moves.{inList, Fit, source, source-copy, source-other, gift-holds, arrival-holds, exchange-holds, copy-holds, clear-holds}
 use Rattle.flow.proofs.After.{after-in-use, unmoved}
 use Rattle.flow.proofs.Outcomes.{Made, Sound, after-rules}
-use Rattle.flow.proofs.Keeping.{Invariant, first-whole, sound, step-kept, state-kept}
+use Rattle.flow.proofs.Keeping.{Invariant, sound, step-kept, state-kept}
 
 -- ---- the tracker of a run doesn't depend on the contents
 pub run-tracker : {W : Type 0} (m : Machine W) (inputs : ℕ → W) (steps : List Step) (k : ℕ) → runAt m inputs steps k .tracker ≡ stateAt steps k
@@ -214,7 +215,7 @@ unbroken-forbids s (confine j x) c i e f =
 
 forbidden-free : (s : State) (c i : ℕ) → c < 64 → {rs : List Rule} (n : ℕ) → firstBroken s n rs ≡ none → Forbidden c i rs → holds s c i ≡ false
 unfolding broken
-forbidden-free s c i h n e (first {r} {rs} f) = unbroken-forbids s (r .condition) c i (none-of 64 (breaks s (r .condition)) c (first-whole s n r rs e .0) h) f
+forbidden-free s c i h n e (first {r} {rs} f) = unbroken-forbids s (r .condition) c i (none-of _ (breaks s (r .condition)) c (first-whole s n r rs e .0) h) f
 forbidden-free s c i h n e (later {r} {rs} f) = forbidden-free s c i h (suc n) (first-whole s n r rs e .1) f
 
 barred-free : (chosen : ℕ → Bool) (s : State) (c : ℕ) → Invariant s → c < 64 → Barred chosen s c → Free chosen (holds s c)

@@ -1,17 +1,23 @@
 -- Short consequences of the definitions, for every state and every byte string.
-use Prim.Native.Nat.{ℕ, _<_}
+use Prim.Native.Nat.{ℕ, suc, _<_}
 use mathlib.Core.Path.{_≡_}
-use mathlib.Core.Bool.{true}
-use mathlib.Core.List.{List, _++_, map}
+use mathlib.Core.Logic.{_↔_}
+use mathlib.Core.Bool.{true, false}
+use mathlib.Core.List.{List, [], _∷_, _++_, map}
 use mathlib.Core.Option.{none, some}
 use lib.ListN.{length}
-use Rattle.flow.specs.Box.{containerCount, State}
-use Rattle.flow.specs.Calls.{Kind, kindNumber, Call, Change, change, after}
-use Rattle.flow.specs.Rules.{holds, lowestBroken}
-use Rattle.flow.specs.Records.{kindOf, callOf, recordsOf}
+use Rattle.flow.specs.Box.{containerCount, processCount, own, Rule, State, itemsOf}
+use Rattle.flow.specs.Links.{linked, used}
+use Rattle.flow.specs.Calls.{Kind, fork, kindNumber, Call, Change, change, after}
+use Rattle.flow.specs.Rules.{holds, broken, Numbered, lowestBroken}
+use Rattle.flow.specs.Records.{recordLength, kindOf, callOf, recordsOf}
 use Rattle.flow.specs.Refusals.{refusal}
 use Rattle.flow.specs.Verdicts.{allows, modifies, outcome, refused, inhibit, answer, next, runLog}
 use Rattle.flow.specs.Contents.{Step, entry, stateAt}
+
+-- a record is refused with the first number of its tests that applies, and every other record is accepted
+unfoldable pub RefusedExactly : Type 0
+RefusedExactly = (s : State) (bytes : List ℕ) (n : ℕ) → answer s bytes ≡ refused n ↔ refusal s bytes ≡ some n
 
 -- each kind has its number
 unfoldable pub KindsNumbered : Type 0
@@ -23,6 +29,15 @@ PassedBreaksNone =
     (s : State) (bytes : List ℕ) (x : Change)
     → (outcome s bytes ≡ allows x → lowestBroken (after s x) ≡ none)
     × ((n c : ℕ) → outcome s bytes ≡ modifies n c x → lowestBroken (after s x) ≡ none)
+
+-- Of a list of rules, the first with number k, x is broken and no earlier one is.
+pub data LowestIn (s : State) (x : Numbered) : ℕ → List Rule → Type 0 where
+  this : {k : ℕ} {r : Rule} {rs : List Rule} → broken s r ≡ true → x ≡ record { number = k; rule = r } → LowestIn s x k (r ∷ rs)
+  past : {k : ℕ} {r : Rule} {rs : List Rule} → broken s r ≡ false → LowestIn s x (suc k) rs → LowestIn s x k (r ∷ rs)
+
+-- the rule that decides is the lowest broken one
+unfoldable pub LowestReported : Type 0
+LowestReported = (s : State) (x : Numbered) → lowestBroken s ≡ some x → LowestIn s x 0 (s .rules)
 
 -- where no rule is broken, a call that adds no item anywhere is allowed
 unfoldable pub NoGainAllowed : Type 0
@@ -39,8 +54,26 @@ StoppedKeeps =
 unfoldable pub OneAnswerEach : Type 0
 OneAnswerEach = (s : State) (log : List ℕ) → length (runLog s log .answers) ≡ length (recordsOf log)
 
+-- A log is a row of records: each is as long as its header says, but for a last one whose header or value runs past the end.
+pub data RowOf : List ℕ → List (List ℕ) → Type 0 where
+  nothing : RowOf [] []
+  cut : {b : ℕ} {bs : List ℕ} → length (b ∷ bs) < recordLength (b ∷ bs) → RowOf (b ∷ bs) ((b ∷ bs) ∷ [])
+  whole : {r rest : List ℕ} {rs : List (List ℕ)} → length r ≡ recordLength r → RowOf rest rs → RowOf (r ++ rest) (r ∷ rs)
+
+unfoldable pub LogIsRow : Type 0
+LogIsRow = (log : List ℕ) → RowOf log (recordsOf log)
+
 -- The records of a log are steps: after any steps, a log leaves the state that they have with its records added.
 unfoldable pub LogIsSteps : Type 0
 LogIsSteps =
     (steps : List Step) (log : List ℕ)
     → (let more = steps ++ map entry (recordsOf log) in runLog (stateAt steps (length steps)) log .state ≡ stateAt more (length more))
+
+-- a forked child has the parent's items and links, in each direction
+unfoldable pub ForkCopies : Type 0
+ForkCopies =
+    (steps : List Step) (k p a : ℕ) → p < processCount → a < processCount
+    → (let s = stateAt steps k in
+    let t = after s (change s (record { kind = fork; process = p; a = a; b = 0; c = 0 })) in
+    used s (own a) ≡ false
+    → (itemsOf t (own a) ≡ itemsOf s (own p)) × ((u : ℕ) → linked t u (own a) ≡ linked s u (own p)) × ((v : ℕ) → linked t (own a) v ≡ linked s (own p) v))
