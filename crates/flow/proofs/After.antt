@@ -11,9 +11,9 @@ use Rattle.sets.specs.Sets.{has, only, _∪_}
 use Rattle.sets.proofs.Members.{none-has}
 use Rattle.flow.specs.Box.{State, itemsOf, feedersOf, fedBy}
 use Rattle.flow.specs.Links.{linked, reach, given, mapped, used}
-use Rattle.flow.specs.Calls.{Flow, still, gift, arrival, exchange, copy, clear, Change, withItems, moved, emptyUnused, after}
+use Rattle.flow.specs.Calls.{Flow, still, gift, arrival, exchange, copy, clear, Change, withItems, moved, ended, after}
 use Rattle.flow.specs.Rules.{holds}
-use Rattle.flow.proofs.Bools.{and-i, by, no-both, choice, chosen-l, chosen-r}
+use Rattle.flow.proofs.Bools.{and-false-l, by, no-both, choice, chosen-l, chosen-r}
 use Rattle.flow.proofs.TableLaws.{table-at}
 use Rattle.flow.proofs.Rows.{Rows}
 use Rattle.flow.proofs.Use.{linked-used, reach-used}
@@ -28,42 +28,48 @@ pub record Linking (s : State) : Type 0 where
 abbrev pub Bare : State → Type 0
 Bare s = (c : ℕ) → c < 64 → used s c ≡ false → itemsOf s c ≡ 0
 
+-- what is in use after a change keeps what was moved into it
+unended : (s t : State) (c : ℕ) → used t c ≡ true → ended s t c ≡ false
+unfolding ended
+unended s t c e = rw e (go (used s c))
+  where
+    go : (b : Bool) → (b && false) ≡ false
+    go true = refl
+    go false = refl
+
 module _ (s : State) (x : Change) where
-  pub after-items : (c : ℕ) → c < 64 → itemsOf (after s x) c ≡ elim (used (x .tables) c) as (λ z. ℕ) [ true ↦ getD (moved s (x .flow)) c 0 | false ↦ 0 ]
-  unfolding after emptyUnused withItems itemsOf used mapped feedersOf fedBy
+  pub after-items : (c : ℕ) → c < 64 → itemsOf (after s x) c ≡ elim (ended s (x .tables) c) as (λ z. ℕ) [ true ↦ 0 | false ↦ getD (moved s (x .flow)) c 0 ]
+  unfolding after withItems itemsOf
   after-items c h = table-at 64 _ c 0 h
 
   pub after-linked : (u v : ℕ) → linked (after s x) u v ≡ linked (x .tables) u v
-  unfolding after emptyUnused withItems linked feedersOf fedBy
+  unfolding after withItems linked feedersOf fedBy
   after-linked u v = refl
 
   pub after-used : (c : ℕ) → used (after s x) c ≡ used (x .tables) c
-  unfolding after emptyUnused withItems used mapped feedersOf fedBy
+  unfolding after withItems used mapped feedersOf fedBy
   after-used c = refl
 
   pub after-linking : Linking (x .tables) → Linking (after s x)
-  unfolding after emptyUnused withItems
+  unfolding after withItems
   after-linking k = record { feeders = k .feeders; fed = k .fed }
 
-  pub after-bare : Bare (after s x)
-  after-bare c h e = after-items c h ∙ chosen-r (used (x .tables) c) _ 0 (sym (after-used c) ∙ e)
-
-  pub after-in-use : (c i : ℕ) → c < 64 → used (x .tables) c ≡ true → holds (after s x) c i ≡ inList (moved s (x .flow)) c i
-  unfolding holds
-  after-in-use c i h e = ap (λ (z : ℕ). has z i) (after-items c h ∙ chosen-l (used (x .tables) c) _ 0 e)
+  pub after-in-use : (c : ℕ) → c < 64 → used (x .tables) c ≡ true → itemsOf (after s x) c ≡ getD (moved s (x .flow)) c 0
+  after-in-use c h e = after-items c h ∙ chosen-r (ended s (x .tables) c) 0 _ (unended s (x .tables) c e)
 
   -- what is held afterwards was so before anything was emptied
   pub after-held : (c i : ℕ) → c < 64 → holds (after s x) c i ≡ true → inList (moved s (x .flow)) c i ≡ true
   unfolding holds
   after-held c i h =
-      λ e. choice (λ z. has z i ≡ true → inList (moved s (x .flow)) c i ≡ true) (used (x .tables) c) _ 0 (λ q f. f) (λ q f. no-both f (none-has i))
+      λ e. choice (λ z. has z i ≡ true → inList (moved s (x .flow)) c i ≡ true) (ended s (x .tables) c) 0 _ (λ q f. no-both f (none-has i)) (λ q f. f)
       (ap (λ (z : ℕ). has z i) (sym (after-items c h)) ∙ e)
 
   pub after-along : Linking (x .tables) → Along (x .tables) (moved s (x .flow)) → (u v i : ℕ) → u < 64 → v < 64
       → linked (after s x) u v ≡ true → holds (after s x) u i ≡ true → holds (after s x) v i ≡ true
+  unfolding holds
   after-along k a u v i hu hv l h =
       let m : linked (x .tables) u v ≡ true = sym (after-linked u v) ∙ l in
-      after-in-use v i hv (linked-used (x .tables) (k .feeders) (k .fed) u v m .1) ∙ a u v i hu hv m (after-held u i hu h)
+      ap (λ (z : ℕ). has z i) (after-in-use v hv (linked-used (x .tables) (k .feeders) (k .fed) u v m .1)) ∙ a u v i hu hv m (after-held u i hu h)
 
 -- a container in use neither before nor after a change has nothing moved into it
 module _ (s t : State) (k : Linking s) (b : Bare s) where
@@ -85,3 +91,11 @@ module _ (s t : State) (k : Linking s) (b : Bare s) where
       copy-at s a c v hv
       ∙ by (eqb v c) (λ q. no-both (fit .3) (rw (eqb-true v c q) at g)) (λ q. ap (itemsOf s) (source-other a c v (eqb-false v c q)) ∙ b v hv e)
   unmoved (clear u) fit v hv e g = clear-at s u v hv ∙ choice (λ z. z ≡ 0) (eqb v u) 0 (itemsOf s v) (λ q. refl) (λ q. b v hv e)
+
+-- what is not in use holds nothing
+pub after-bare : (s : State) → Linking s → Bare s → (x : Change) → Fit s (x .tables) (x .flow) → Bare (after s x)
+unfolding ended
+after-bare s k b x fit c h e =
+    let f : used (x .tables) c ≡ false = sym (after-used s x c) ∙ e in
+    after-items s x c h
+    ∙ choice (λ z. z ≡ 0) (ended s (x .tables) c) 0 _ (λ q. refl) (λ q. unmoved s (x .tables) k b (x .flow) fit c h (and-false-l (used s c) _ (ap not f) q) f)

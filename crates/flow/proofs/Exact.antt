@@ -11,8 +11,8 @@ use borrow.Author.Tests.{ltb-true, eqb-true, eqb-false, eq-eqb, ne-eqb}
 use Rattle.sets.specs.Sets.{has, only, _∪_}
 use Rattle.sets.proofs.Members.{none-has, only-has, union-has}
 use Rattle.flow.specs.Box.{State, fresh, itemsOf}
-use Rattle.flow.specs.Links.{reach, given, used}
-use Rattle.flow.specs.Calls.{Call, Flow, still, gift, arrival, exchange, copy, clear, Change, moved, after}
+use Rattle.flow.specs.Links.{reach, given}
+use Rattle.flow.specs.Calls.{Call, Flow, still, gift, arrival, exchange, copy, clear, Change, moved, ended, after}
 use Rattle.flow.specs.Records.{callOf}
 use Rattle.flow.specs.Verdicts.{Outcome, refuses, loads, allows, inhibits, modifies, outcome, withRule, stateAfter}
 use Rattle.flow.specs.Queries.{Reply, refuse, result, itemsQuery}
@@ -20,7 +20,7 @@ use Rattle.flow.specs.Contents.{Step, entry, memory, Machine, flowed, ch
 use Rattle.flow.specs.Exact.{DifferOnlyAt, Influence, Exact}
 use Rattle.flow.proofs.Bools.{or-false-i, and-i, and-l, and-r, by, no-both, choice, choices, chosen-l, chosen-r}
 use Rattle.flow.proofs.Moves.{Fit, given-at, source, source-copy, source-other, copy-at, clear-at}
-use Rattle.flow.proofs.After.{after-items, unmoved}
+use Rattle.flow.proofs.After.{after-items}
 use Rattle.flow.proofs.Outcomes.{Made, Sound}
 use Rattle.flow.proofs.Keeping.{Invariant, fresh-empty, sound, state-kept}
 use Rattle.flow.proofs.TwoRuns.{run-tracker, query-answers}
@@ -86,24 +86,11 @@ module _ (s : State) (k : Invariant s) (κ : ℕ → ℕ) (mirrors : Mirrors s �
       ∙ sym (copy-at s a b v hv)
   mirror-flow t (clear u) fit e v hv = choices (eqb v u) _ _ _ _ (λ l. refl) (λ l. mirrors v hv) ∙ sym (clear-at s u v hv)
 
-  -- use ended: both are empty; else the flow's result, which is empty where nothing is in use
   mirror-change : (q : Option Call) (y : Change) → Made s q y → ((i : ℕ) → labelOf q ≡ some i → x ≡ only i) → Mirrors (after s y) (changed collecting n x s y κ)
   unfolding changed collecting
   mirror-change q y m e v hv =
-      let flow : flowed collecting n x s (y .flow) κ v ≡ getD (moved s (y .flow)) v 0 = mirror-flow (y .tables) (y .flow) (m .fit) (λ u i z. e i (m .labelled u i z)) v hv in
-      by (used (y .tables) v)
-      (λ l. chosen-r (used s v && not (used (y .tables) v)) _ _ (rw l (unended (used s v))) ∙ flow ∙ sym (after-items s y v hv ∙ chosen-l (used (y .tables) v) _ _ l))
-      (λ l. choice (λ z. z ≡ 0) (used s v && not (used (y .tables) v)) _ _ (λ a. refl)
-      (λ a. flow ∙ unmoved s (y .tables) (k .linking) (k .bare) (y .flow) (m .fit) v hv (unused (used s v) (used (y .tables) v) l a) l)
-      ∙ sym (after-items s y v hv ∙ chosen-r (used (y .tables) v) _ _ l))
-    where
-      unended : (b : Bool) → (b && not true) ≡ false
-      unended true = refl
-      unended false = refl
-
-      unused : (b c : Bool) → c ≡ false → (b && not c) ≡ false → b ≡ false
-      unused true c e f = no-both (ap not e) f
-      unused false c e f = refl
+      choices (ended s (y .tables) v) _ _ _ _ (λ l. refl) (λ l. mirror-flow (y .tables) (y .flow) (m .fit) (λ u i z. e i (m .labelled u i z)) v hv)
+      ∙ sym (after-items s y v hv)
 
   mirror-outcome : (q : Option Call) (o : Outcome) → Sound s q o → ((i : ℕ) → labelOf q ≡ some i → x ≡ only i) → Mirrors (stateAfter s o) (contentsAfter collecting n x s o κ)
   unfolding stateAfter contentsAfter Sound withRule itemsOf
@@ -157,7 +144,7 @@ module _ (i : ℕ) where
 
     lack-change : (y : Change) → Lack (changed collecting n x s y κ)
     unfolding changed collecting
-    lack-change y v = choice (λ z. has z i ≡ false) (used s v && not (used (y .tables) v)) _ _ (λ l. none-has i) (λ l. lack-flow (y .flow) v)
+    lack-change y v = choice (λ z. has z i ≡ false) (ended s (y .tables) v) _ _ (λ l. none-has i) (λ l. lack-flow (y .flow) v)
 
     lack-outcome : (o : Outcome) → Lack (contentsAfter collecting n x s o κ)
     unfolding contentsAfter

@@ -12,12 +12,12 @@ use Rattle.flow.specs.Links.{linked, used}
 use Rattle.flow.specs.Calls.{fork, Call, Change, change, withLive, withDescriptors, withLinks, tablesBy, flowBy, after}
 use Rattle.flow.specs.Contents.{stateAt}
 use Rattle.flow.specs.Consequences.{ForkCopies}
-use Rattle.flow.proofs.Bools.{by, no-both, chosen-l}
+use Rattle.flow.proofs.Bools.{by, no-both}
 use Rattle.flow.proofs.Reach.{link-cases, link-in, link-out}
 use Rattle.flow.proofs.Rows.{leads-not, now-live}
 use Rattle.flow.proofs.Use.{used-process, feeder-row, fed-row}
 use Rattle.flow.proofs.Moves.{source-copy, copy-at}
-use Rattle.flow.proofs.After.{Linking, after-items, after-linked}
+use Rattle.flow.proofs.After.{Linking, after-in-use, after-linked}
 use Rattle.flow.proofs.Accepted.{linking-fork}
 use Rattle.flow.proofs.Keeping.{state-kept}
 
@@ -66,7 +66,7 @@ fork-copies steps n p a hp ha e =
     let s : State = stateAt steps n in
     let k : Linking s = state-kept steps n .linking in
     let q : Call = record { kind = fork; process = p; a = a; b = 0; c = 0 } in (
-      after-items s (change s q) (own a) (omega arith) ∙ chosen-l (used (child s k p a hp ha) (own a)) _ 0 (child-used s k p a hp ha)
+      after-in-use s (change s q) (own a) (omega arith) (child-used s k p a hp ha)
           ∙ copy-at s (own p) (own a) (own a) (omega arith) ∙ ap (itemsOf s) (source-copy (own p) (own a) (own a) refl),
       λ u. after-linked s (change s q) u (own a) ∙ into-process (child s k p a hp ha) (child-linking s k p a hp ha) a ha u
           ∙ ap (λ (x : ℕ). has x u) (child-feeders s k p a hp ha) ∙ sym (into-process s k p hp u),

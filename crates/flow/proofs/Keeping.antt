@@ -10,7 +10,7 @@ use Rattle.sets.specs.Sets.{has}
 use Rattle.sets.proofs.Members.{none-has}
 use Rattle.flow.specs.Box.{isFile, leads, closed, Condition, forbid, separate, confine, Rule, State, fresh, itemsOf, feedersOf, fedBy}
 use Rattle.flow.specs.Links.{linked, mapped, used}
-use Rattle.flow.specs.Calls.{Call, Change, withItems, emptyUnused, after}
+use Rattle.flow.specs.Calls.{Call, Change, withItems, after}
 use Rattle.flow.specs.Rules.{holds, breaks, broken, Numbered, firstBroken, lowestBroken}
 use Rattle.flow.specs.Records.{callOf}
 use Rattle.flow.specs.Verdicts.{Outcome, refuses, loads, allows, inhibits, modifies, outcome, withRule, stateAfter}
@@ -66,13 +66,13 @@ fresh-kept =
 
 -- ---- a change
 made-kept : (s : State) (q : Option Call) (x : Change) → Invariant s → Made s q x → Invariant (after s x)
-unfolding holds itemsOf after emptyUnused withItems
+unfolding holds itemsOf after withItems
 made-kept s q x k m =
     record {
       linking = after-linking s x (m .linking);
       entries = record { described = m .entries .described; named = m .entries .named };
       along = after-along s x (m .linking) (moved-along s (fed-bound s (k .linking)) (x .tables) (k .along) (x .flow) (m .fit));
-      bare = after-bare s x;
+      bare = after-bare s (k .linking) (k .bare) x (m .fit);
       unbroken = m .unbroken;
       loadable = rw (m .rules) (k .loadable);
     }

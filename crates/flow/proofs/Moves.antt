@@ -13,7 +13,7 @@ use Rattle.sets.proofs.Members.{union-has, only-has, none-has}
 use Rattle.flow.specs.Tables.{table}
 use Rattle.flow.specs.Box.{State, itemsOf, fedBy}
 use Rattle.flow.specs.Links.{linked, reach, given, used}
-use Rattle.flow.specs.Calls.{Flow, still, gift, arrival, exchange, copy, clear, Change, withItems, moved, emptyUnused, after}
+use Rattle.flow.specs.Calls.{Flow, still, gift, arrival, exchange, copy, clear, moved}
 use Rattle.flow.specs.Rules.{holds}
 use Rattle.flow.proofs.Bools.{or-elim, or-l, or-r, and-l, and-r, and-i, by, no-both, choice, chosen-l, chosen-r}
 use Rattle.flow.proofs.TableLaws.{table-at}

@@ -12,7 +12,7 @@ use borrow.Author.Tests.{ltb-true, not-true, not-false, eqb-true}
 use Rattle.flow.specs.Tables.{Test, _⇒_}
 use Rattle.flow.specs.Box.{own, leads, Rule, State, descriptor}
 use Rattle.flow.specs.Links.{used}
-use Rattle.flow.specs.Calls.{Kind, start, openName, create, pipe, device, dup, close, read, write, truncate, mapRead, mapBoth, unmap, unlink, rename, link, fork, exit, label, kindNumber, Call, Flow, still, gift, arrival, exchange, copy, clear, withLive, withDescriptors, withNames, withLinks, isFed, tablesBy, flowBy, Change, change, withItems, emptyUnused, after}
+use Rattle.flow.specs.Calls.{Kind, start, openName, create, pipe, device, dup, close, read, write, truncate, mapRead, mapBoth, unmap, unlink, rename, link, fork, exit, label, kindNumber, Call, Flow, still, gift, arrival, exchange, copy, clear, withLive, withDescriptors, withNames, withLinks, isFed, tablesBy, flowBy, Change, change, withItems, after}
 use Rattle.flow.specs.Rules.{broken, Numbered, lowestBroken}
 use Rattle.flow.specs.Records.{tagOf, callTag, cutShort, wrongLength, callOf, ruleOf}
 use Rattle.flow.specs.Refusals.{inRange, ranges, fieldsFit, isLive, dead, taken, missing, sameDescriptors, noFile, itemsFit, substituteFits, sameItems, callTests, ruleTests, testsByTag, recordTests, refusal}
@@ -97,7 +97,7 @@ label-brings s p a b c exit u i e = cc
 label-brings s p a b c label u i e = cc
 
 pub after-rules : (s : State) (x : Change) → after s x .rules ≡ x .tables .rules
-unfolding after emptyUnused withItems
+unfolding after withItems
 after-rules s x = refl
 
 pub rules-kept : (s : State) (q : Call) → after s (change s q) .rules ≡ s .rules

@@ -14,7 +14,7 @@ use Rattle.sets.specs.Sets.{has}
 use Rattle.sets.proofs.Members.{none-has}
 use Rattle.flow.specs.Box.{Condition, forbid, separate, confine, Rule, State, fresh, itemsOf}
 use Rattle.flow.specs.Links.{linked, reach, used}
-use Rattle.flow.specs.Calls.{Call, Flow, still, gift, arrival, exchange, copy, clear, Change, moved, after}
+use Rattle.flow.specs.Calls.{Call, Flow, still, gift, arrival, exchange, copy, clear, Change, moved, ended, after}
 use Rattle.flow.specs.Rules.{holds, breaks, broken, firstBroken, lowestBroken, forbids}
 use Rattle.flow.specs.Records.{callOf}
 use Rattle.flow.specs.Verdicts.{Outcome, refuses, loads, allows, inhibits, modifies, outcome, withRule, stateAfter}
@@ -128,18 +128,19 @@ module _ (W : Type 0) (M : Machine W) (chosen : ℕ → Bool) where
     flow-same t (clear u) fit equal v hv f = flow-clear u v hv f
 
     -- clean afterwards, and its use not ended: clean before anything was emptied
-    free-moved : (q : Option Call) (x : Change) → Made s q x → (v : ℕ) → v < 64 → (used s v && not (used (x .tables) v)) ≡ false
+    free-moved : (q : Option Call) (x : Change) → Made s q x → (v : ℕ) → v < 64 → ended s (x .tables) v ≡ false
         → Free chosen (holds (after s x) v) → Free chosen (inList (moved s (x .flow)) v)
+    unfolding ended holds
     free-moved q x m v hv e f i h c =
         by (used (x .tables) v)
-        (λ l. sym (after-in-use s x v i hv l) ∙ f i h c)
+        (λ l. ap (λ (z : ℕ). has z i) (sym (after-in-use s x v hv l)) ∙ f i h c)
         (λ l. ap (λ (z : ℕ). has z i) (unmoved s (x .tables) (k .linking) (k .bare) (x .flow) (m .fit) v hv (and-false-l (used s v) _ (ap not l) e) l) ∙ none-has i)
 
     changed-same : (q : Option Call) (x : Change) → Made s q x → ((i : ℕ) → labelOf q ≡ some i → chosen i ≡ false → x₁ ≡ x₂)
         → Same (after s x) (changed M n x₁ s x κ₁) (changed M n x₂ s x κ₂)
     unfolding changed
     changed-same q x m equal v hv f =
-        choices (used s v && not (used (x .tables) v)) _ _ _ _ (λ e. refl)
+        choices (ended s (x .tables) v) _ _ _ _ (λ e. refl)
         (λ e. flow-same (x .tables) (x .flow) (m .fit) (λ u i z. equal i (m .labelled u i z)) v hv (free-moved q x m v hv e f))
 
     record-same : (q : Option Call) (o : Outcome) → Sound s q o → ((i : ℕ) → labelOf q ≡ some i → chosen i ≡ false → x₁ ≡ x₂)

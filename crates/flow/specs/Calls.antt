@@ -174,10 +174,11 @@ moved s (exchange u v) = given (given (s .items) (reach s v) (itemsOf s u)) (rea
 moved s (copy u v) = table containerCount (λ x. elim (eqb x v) [ true ↦ itemsOf s u | false ↦ itemsOf s x ])
 moved s (clear u) = table containerCount (λ x. elim (eqb x u) [ true ↦ 0 | false ↦ itemsOf s x ])
 
--- what is not in use holds nothing
-unfoldable pub emptyUnused : State → State
-emptyUnused s = withItems s (table containerCount (λ c. elim (used s c) [ true ↦ itemsOf s c | false ↦ 0 ]))
+-- the use of container c ends: it was in use in the state s before, and isn't in the state t after
+unfoldable pub ended : State → State → ℕ → Bool
+ended s t c = used s c && not (used t c)
 
--- the state after a change
+-- the state after a change; what it ends the use of is emptied
 unfoldable pub after : State → Change → State
-after s x = emptyUnused (withItems (x .tables) (moved s (x .flow)))
+after s x =
+    withItems (x .tables) (table containerCount (λ c. elim (ended s (x .tables) c) [ true ↦ 0 | false ↦ getD (moved s (x .flow)) c 0 ]))

@@ -1,14 +1,14 @@
 -- Document 01, The contents in demand 3: a plain machine, apart from the tracker.
 use Prim.Native.Nat.{ℕ, zero, suc}
-use mathlib.Core.Bool.{Bool, true, false, not, _&&_}
+use mathlib.Core.Bool.{Bool, true, false}
 use mathlib.Core.List.{List, [], _∷_}
 use mathlib.Core.Option.{Option, none, some}
 use lib.Dec.{eqb}
 use lib.ListN.{getD}
 use Rattle.sets.specs.Sets.{has}
 use Rattle.flow.specs.Box.{containerCount, State, fresh}
-use Rattle.flow.specs.Links.{linked, reach, used}
-use Rattle.flow.specs.Calls.{kindNumber, Call, Flow, still, gift, arrival, exchange, copy, clear, Change}
+use Rattle.flow.specs.Links.{linked, reach}
+use Rattle.flow.specs.Calls.{kindNumber, Call, Flow, still, gift, arrival, exchange, copy, clear, Change, ended}
 use Rattle.flow.specs.Records.{callOf}
 use Rattle.flow.specs.Verdicts.{Outcome, refuses, loads, allows, inhibits, modifies, outcome, stateAfter}
 
@@ -48,7 +48,7 @@ module _ {W : Type 0} (m : Machine W) where
 
   -- a change moves contents, and what it ends the use of is emptied
   unfoldable pub changed : ℕ → W → State → Change → (ℕ → W) → ℕ → W
-  changed n input s x κ v = elim (used s v && not (used (x .tables) v)) [ true ↦ m .empty | false ↦ flowed n input s (x .flow) κ v ]
+  changed n input s x κ v = elim (ended s (x .tables) v) [ true ↦ m .empty | false ↦ flowed n input s (x .flow) κ v ]
 
   -- no other record changes contents
   unfoldable pub contentsAfter : ℕ → W → State → Outcome → (ℕ → W) → ℕ → W
