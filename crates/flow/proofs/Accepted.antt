@@ -91,14 +91,14 @@ module _ (s : State) (k : Linking s) (p a b c : ℕ) where
   abbrev row-out : (q : ℕ) → Row (s .live) q (fedBy s q)
   row-out = fed-row s (k .feeders) (k .fed)
 
-  process-lt : (kind : Kind) → inRange (ranges kind .process) p ≡ ltb p 16 → Accepted s (call kind) → p < 16
+  pub process-lt : (kind : Kind) → inRange (ranges kind .process) p ≡ ltb p 16 → Accepted s (call kind) → p < 16
   process-lt kind e h = ltb-true p 16 (sym e ∙ fits-process (ranges kind) (call kind) (h .fits))
 
   opened : (kind : Kind) → missing s p a b c kind ≡ not (isOpen s p a) → Accepted s (call kind) → leads to ≡ true
   unfolding isOpen
   opened kind e h = not-false (leads to) (sym e ∙ h .there)
 
-  alive : (kind : Kind) → dead s (call kind) ≡ not (isLive s p) → Accepted s (call kind) → has (s .live) p ≡ true
+  pub alive : (kind : Kind) → dead s (call kind) ≡ not (isLive s p) → Accepted s (call kind) → has (s .live) p ≡ true
   unfolding isLive
   alive kind e h = not-false (has (s .live) p) (sym e ∙ h .lives)
 

@@ -1,46 +1,74 @@
 -- Short consequences of the definitions.
 use Prim.Native.Nat.{ℕ, zero, suc, _+_, _≤_, _<_}
 use native.Mathlib.Omega.{arith}
-use native.Mathlib.Nat.{le-refl}
+use native.Mathlib.Nat.{le-refl, not-suc-le-zero, le-of-suc-le-suc}
 use mathlib.Core.Path.{_≡_, refl, sym, ap, _∙_}
 use mathlib.Core.Bool.{Bool, true, false, not, _&&_}
 use mathlib.Core.List.{List, [], _∷_, _++_, map, append-nil, append-assoc}
 use mathlib.Core.Option.{Option, none, some}
-use lib.ListN.{getD, length, length-append, List·getD-append}
+use lib.ListN.{getD, length, take, length-append, List·getD-append}
 use lib.Seq.{getD-append-seam}
 use Rattle.flow.specs.Box.{Rule, State}
 use Rattle.flow.specs.Calls.{Kind, start, openName, create, pipe, device, dup, close, read, write, truncate, mapRead, mapBoth, unmap, unlink, rename, link, fork, exit, label, kindNumber, Call, Change, change, after}
 use Rattle.flow.specs.Rules.{holds, Numbered, lowestBroken}
-use Rattle.flow.specs.Records.{kindOf, callOf, recordsOf}
+use Rattle.flow.specs.Records.{kinds, kindOf, callOf, recordsOf}
 use Rattle.flow.specs.Refusals.{refusal}
 use Rattle.flow.specs.Verdicts.{Outcome, refuses, loads, allows, inhibits, modifies, diversion, mayDivert, breaksNone, stopped, verdictBy, verdict, accepted, outcomeBy, outcome, Answer, refused, rule, allow, inhibit, modify, answerOf, answer, stateAfter, next, answerAll, runLog}
 use Rattle.flow.specs.Contents.{Step, entry, memory, stepState, stateAt}
-use Rattle.flow.specs.Consequences.{KindsNumbered, PassedBreaksNone, NoGainAllowed, StoppedKeeps, OneAnswerEach, LogIsSteps}
+use Rattle.flow.specs.Consequences.{KindsNumbered, PassedBreaksNone, VerdictExactly, NoGainAllowed, StoppedKeeps, OneAnswerEach, AnswersInOrder, LogIsSteps}
 use Rattle.flow.proofs.Bools.{choice}
 use Rattle.flow.proofs.Outcomes.{none-is, rules-kept}
 use Rattle.flow.proofs.Judging.{none-broken}
 
+-- ---- kinds and their numbers: the list from number i on
+unfoldable Indexed : ℕ → List (Option Kind) → Type 0
+Indexed i [] = Unit {0}
+Indexed i (none ∷ l) = Indexed (suc i) l
+Indexed i (some k ∷ l) = (kindNumber k ≡ i) × Indexed (suc i) l
+
+indexed-at : (l : List (Option Kind)) (i n : ℕ) (k : Kind) → Indexed i l → getD l n none ≡ some k → n + i ≡ kindNumber k
+unfolding Indexed
+indexed-at [] i n k h e = absurd (let z : _≡_ {A = ℕ} 0 1 = cc in let y : ⊥ = omega arith in y)
+indexed-at (none ∷ l) i zero k h e = absurd (let z : _≡_ {A = ℕ} 0 1 = cc in let y : ⊥ = omega arith in y)
+indexed-at (none ∷ l) i (suc n) k h e = let w : n + suc i ≡ kindNumber k = indexed-at l (suc i) n k h e in omega arith
+indexed-at (some j ∷ l) i zero k h e = let q : j ≡ k = cc in let w : kindNumber k ≡ i = rw q at (h .0) in omega arith
+indexed-at (some j ∷ l) i (suc n) k h e = let w : n + suc i ≡ kindNumber k = indexed-at l (suc i) n k (h .1) e in omega arith
+
+kind-at : (k : Kind) → kindOf (kindNumber k) ≡ some k
+unfolding kindOf kinds kindNumber
+kind-at start = refl
+kind-at openName = refl
+kind-at create = refl
+kind-at pipe = refl
+kind-at device = refl
+kind-at dup = refl
+kind-at close = refl
+kind-at read = refl
+kind-at write = refl
+kind-at truncate = refl
+kind-at mapRead = refl
+kind-at mapBoth = refl
+kind-at unmap = refl
+kind-at unlink = refl
+kind-at rename = refl
+kind-at link = refl
+kind-at fork = refl
+kind-at exit = refl
+kind-at label = refl
+
+kinds-indexed : Indexed 0 kinds
+unfolding kinds Indexed kindNumber
+kinds-indexed = (refl, (refl, (refl, (refl, (refl, (refl, (refl, (refl, (refl, (refl, (refl, (refl, (refl, (refl, (refl, (refl, (refl, (refl, (refl, tt)))))))))))))))))))
+
+number-at : (n : ℕ) (k : Kind) → kindOf n ≡ some k → n ≡ kindNumber k
+unfolding kindOf
+number-at n k e =
+    let w : n + 0 ≡ kindNumber k = indexed-at kinds 0 n k kinds-indexed e in
+    omega arith
+
 pub kinds-numbered : KindsNumbered
-unfolding KindsNumbered kindOf kindNumber
-kinds-numbered start = refl
-kinds-numbered openName = refl
-kinds-numbered create = refl
-kinds-numbered pipe = refl
-kinds-numbered device = refl
-kinds-numbered dup = refl
-kinds-numbered close = refl
-kinds-numbered read = refl
-kinds-numbered write = refl
-kinds-numbered truncate = refl
-kinds-numbered mapRead = refl
-kinds-numbered mapBoth = refl
-kinds-numbered unmap = refl
-kinds-numbered unlink = refl
-kinds-numbered rename = refl
-kinds-numbered link = refl
-kinds-numbered fork = refl
-kinds-numbered exit = refl
-kinds-numbered label = refl
+unfolding KindsNumbered
+kinds-numbered n k = (number-at n k, λ e. rw e (kind-at k))
 
 -- ---- no rule is broken after a change
 unfoldable Whole : State → Outcome → Type 0
@@ -77,6 +105,23 @@ pub passed-breaks-none : PassedBreaksNone
 unfolding PassedBreaksNone outcome Whole
 passed-breaks-none s bytes x = (λ e. rw e at (outcome-whole s bytes (refusal s bytes)), λ n c e. rw e at (outcome-whole s bytes (refusal s bytes)))
 
+-- ---- the verdict
+inhibited : (x : Numbered) (d : Change) (b w : Bool) → (b && w) ≡ false
+    → _≡_ {A = Outcome} (elim b as (λ z. Outcome) [ true ↦ elim w as (λ z. Outcome) [ true ↦ modifies (x .number) (x .rule .substitute) d | false ↦ inhibits (x .number) ] | false ↦ inhibits (x .number) ]) (inhibits (x .number))
+inhibited x d true true m = cc
+inhibited x d true false m = refl
+inhibited x d false w m = refl
+
+pub verdict-exactly : VerdictExactly
+unfolding VerdictExactly outcome outcomeBy accepted verdict verdictBy stopped breaksNone
+verdict-exactly s bytes q e f = (
+  λ h. rw (e, outcomeBy, f, accepted, verdict, h) refl,
+  λ x h. (
+    λ m w. rw (e, outcomeBy, f, accepted, verdict, h, verdictBy, m, stopped, w) refl,
+    λ m. rw (e, outcomeBy, f, accepted, verdict, h) (inhibited x (diversion s q (x .rule)) (mayDivert s q (x .rule)) (breaksNone (after s (diversion s q (x .rule)))) m),
+  ),
+)
+
 -- ---- nothing gained
 pub no-gain-allowed : NoGainAllowed
 unfolding NoGainAllowed outcome outcomeBy accepted verdict verdictBy lowestBroken
@@ -107,6 +152,16 @@ answers-each s (r ∷ rs) = ap suc (answers-each (stateAfter s (outcome s r)) rs
 pub one-answer-each : OneAnswerEach
 unfolding OneAnswerEach runLog
 one-answer-each s log = answers-each s (recordsOf log)
+
+answer-at : (s : State) (rs : List (List ℕ)) (k : ℕ) → k < length rs → getD (answerAll s rs .answers) k allow ≡ answer (answerAll s (take k rs) .state) (getD rs k [])
+unfolding answerAll answer
+answer-at s [] k h = absurd (not-suc-le-zero h)
+answer-at s (r ∷ rs) zero h = refl
+answer-at s (r ∷ rs) (suc k) h = answer-at (stateAfter s (outcome s r)) rs k (le-of-suc-le-suc h)
+
+pub answers-in-order : AnswersInOrder
+unfolding AnswersInOrder runLog
+answers-in-order s log k h = answer-at s (recordsOf log) k h
 
 -- later steps don't change earlier states
 state-front : (xs ys : List Step) (k : ℕ) → k ≤ length xs → stateAt (xs ++ ys) k ≡ stateAt xs k

@@ -186,11 +186,12 @@ answered s c x = go (ltb c 64) refl
     go false e h = absurd (let z : _≡_ {A = ℕ} 0 1 = cc in let y : ⊥ = omega arith in y)
 
 pub exact : Exact
-unfolding Exact DifferOnlyAt
+unfolding Exact DifferOnlyAt collecting
 exact steps k l c i x e h =
     let a = answered (stateAt steps k) c x e in
     record {
       machine = collecting;
+      from-zero = refl;
       in₁ = inputs every steps;
       in₂ = inputs (eqb i) steps;
       only-labels = λ n d. differs i (itemLabelled (stepAt steps n)) d;

@@ -1,4 +1,4 @@
--- A forked child has the parent's items and links, in each direction.
+-- A forked child has the parent's items, descriptors and links, in each direction.
 use Prim.Native.Nat.{ℕ, _+_, _-_, _<_}
 use native.Mathlib.Omega.{arith}
 use mathlib.Core.Path.{_≡_, refl, sym, ap, _∙_}
@@ -7,9 +7,9 @@ use mathlib.Core.List.{List}
 use lib.ListN.{getD, set, length}
 use lib.Seq.{getD-set-same}
 use Rattle.sets.specs.Sets.{has}
-use Rattle.flow.specs.Box.{own, State, itemsOf, feedersOf, fedBy}
+use Rattle.flow.specs.Box.{own, State, itemsOf, feedersOf, fedBy, descriptor}
 use Rattle.flow.specs.Links.{linked, used}
-use Rattle.flow.specs.Calls.{fork, Call, Change, change, withLive, withDescriptors, withLinks, tablesBy, flowBy, after}
+use Rattle.flow.specs.Calls.{fork, Call, Change, change, withItems, withLive, withDescriptors, withLinks, tablesBy, flowBy, after}
 use Rattle.flow.specs.Contents.{stateAt}
 use Rattle.flow.specs.Consequences.{ForkCopies}
 use Rattle.flow.proofs.Bools.{by, no-both}
@@ -19,6 +19,7 @@ use Rattle.flow.proofs.Use.{used-process, feeder-row, fed-row}
 use Rattle.flow.proofs.Moves.{source-copy, copy-at}
 use Rattle.flow.proofs.After.{Linking, after-in-use, after-linked}
 use Rattle.flow.proofs.Accepted.{linking-fork}
+use Rattle.flow.proofs.Blocks.{put-own, block-length, block-at}
 use Rattle.flow.proofs.Keeping.{state-kept}
 
 -- what links to a process is in its row, and what it links to
@@ -61,13 +62,14 @@ module _ (s : State) (k : Linking s) (p a : ℕ) (hp : p < 16) (ha : a < 16) whe
   child-used = used-process child a ha ∙ now-live (s .live) a
 
 pub fork-copies : ForkCopies
-unfolding ForkCopies change flowBy
+unfolding ForkCopies change flowBy tablesBy withLive withDescriptors withItems after descriptor
 fork-copies steps n p a hp ha e =
     let s : State = stateAt steps n in
     let k : Linking s = state-kept steps n .linking in
     let q : Call = record { kind = fork; process = p; a = a; b = 0; c = 0 } in (
       after-in-use s (change s q) (own a) (omega arith) (child-used s k p a hp ha)
           ∙ copy-at s (own p) (own a) (own a) (omega arith) ∙ ap (itemsOf s) (source-copy (own p) (own a) (own a) refl),
+      λ d hd. put-own (s .descriptors) _ a (state-kept steps n .quiet .size) (block-length (s .descriptors) p (state-kept steps n .quiet .size) hp) ha d hd ∙ block-at (s .descriptors) p d hd,
       λ u. after-linked s (change s q) u (own a) ∙ into-process (child s k p a hp ha) (child-linking s k p a hp ha) a ha u
           ∙ ap (λ (x : ℕ). has x u) (child-feeders s k p a hp ha) ∙ sym (into-process s k p hp u),
       λ v. after-linked s (change s q) (own a) v ∙ out-of-process (child s k p a hp ha) (child-linking s k p a hp ha) a ha v

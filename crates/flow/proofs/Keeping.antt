@@ -1,14 +1,14 @@
 -- Every step keeps what Kept says.
-use Prim.Native.Nat.{ℕ, zero, suc, _+_, _^_, _<_}
+use Prim.Native.Nat.{ℕ, zero, suc, _+_, _^_, _≤_, _<_, zero-le}
 use native.Mathlib.Omega.{arith}
 use mathlib.Core.Path.{_≡_, refl, sym, ap, _∙_}
 use mathlib.Core.Bool.{Bool, true, false, not, _&&_}
 use mathlib.Core.List.{List, [], _∷_, _++_}
 use mathlib.Core.Option.{Option, none, some}
-use lib.ListN.{getD, replicate, length-replicate}
+use lib.ListN.{getD, length, replicate, length-append, length-replicate, getD-replicate}
 use Rattle.sets.specs.Sets.{has}
 use Rattle.sets.proofs.Members.{none-has}
-use Rattle.flow.specs.Box.{isFile, leads, closed, Condition, forbid, separate, confine, Rule, State, fresh, itemsOf, feedersOf, fedBy}
+use Rattle.flow.specs.Box.{isFile, leads, closed, slot, Rule, State, fresh, itemsOf, feedersOf, fedBy, descriptor}
 use Rattle.flow.specs.Links.{linked, mapped, used}
 use Rattle.flow.specs.Calls.{Call, Change, withItems, after}
 use Rattle.flow.specs.Rules.{holds, breaks, broken, Numbered, firstBroken, lowestBroken}
@@ -25,16 +25,19 @@ use Rattle.flow.proofs.Use.{linked-used, linked-joins, fed-row}
 use Rattle.flow.proofs.Moves.{Along, moved-along}
 use Rattle.flow.proofs.After.{Linking, Bare, after-linking, after-bare, after-along}
 use Rattle.flow.proofs.Entries.{Entries, each-closed, each-at}
+use Rattle.flow.proofs.Blocks.{Quiet}
 use Rattle.flow.proofs.Outcomes.{Made, Sound, outcome-sound}
 
 -- what the proofs carry from state to state
 pub record Invariant (s : State) : Type 0 where
   pub linking : Linking s
   pub entries : Entries s
+  pub quiet : Quiet s
   pub along : Along s (s .items)
   pub bare : Bare s
   pub unbroken : lowestBroken s ≡ none
   pub loadable : allWellFormed (s .rules) ≡ true
+  pub counted : length (s .rules) ≤ 32
 
 pub fed-bound : (s : State) → Linking s → (p : ℕ) → fedBy s p < 2 ^ 64
 fed-bound s k p = fed-row s (k .feeders) (k .fed) p .fits
@@ -58,10 +61,12 @@ fresh-kept =
     record {
       linking = record { feeders = fresh-rows; fed = fresh-rows };
       entries = record { described = each-closed leads 512; named = each-closed isFile 128 };
+      quiet = record { size = length-replicate {A = ℕ} 512 closed; dead = λ p d hp hd h. getD-replicate 512 (slot p d) closed closed (omega arith) };
       along = λ u v i hu hv l h. no-both h (ap (λ (x : ℕ). has x i) (zeros 64 u) ∙ none-has i);
       bare = λ c hc e. zeros 64 c;
       unbroken = refl;
       loadable = refl;
+      counted = zero-le;
     }
 
 -- ---- a change
@@ -71,10 +76,12 @@ made-kept s q x k m =
     record {
       linking = after-linking s x (m .linking);
       entries = record { described = m .entries .described; named = m .entries .named };
+      quiet = record { size = m .quiet .size; dead = m .quiet .dead };
       along = after-along s x (m .linking) (moved-along s (fed-bound s (k .linking)) (x .tables) (k .along) (x .flow) (m .fit));
       bare = after-bare s (k .linking) (k .bare) x (m .fit);
       unbroken = m .unbroken;
       loadable = rw (m .rules) (k .loadable);
+      counted = rw (m .rules) (k .counted);
     }
 
 -- ---- a rule
@@ -83,29 +90,31 @@ unfolding allWellFormed
 one-formed [] x e f = and-i (wellFormed x) true f refl
 one-formed (r ∷ rs) x e f = and-i (wellFormed r) _ (and-l _ (allWellFormed rs) e) (one-formed rs x (and-r (wellFormed r) _ e) f)
 
-rule-kept : (s : State) (x : Rule) → Invariant s → broken s x ≡ false → wellFormed x ≡ true → Invariant (withRule s x)
+rule-kept : (s : State) (x : Rule) → Invariant s → broken s x ≡ false → wellFormed x ≡ true → length (s .rules) < 32 → Invariant (withRule s x)
 unfolding withRule linked feedersOf fedBy used mapped holds itemsOf lowestBroken
-rule-kept s x k e f =
+rule-kept s x k e f l =
     record {
       linking = record { feeders = k .linking .feeders; fed = k .linking .fed };
       entries = record { described = k .entries .described; named = k .entries .named };
+      quiet = record { size = k .quiet .size; dead = k .quiet .dead };
       along = k .along;
       bare = k .bare;
       unbroken = none-broken (withRule s x) s (λ v i h m. m) 0 _ (one-more s 0 (s .rules) x (k .unbroken) e);
       loadable = one-formed (s .rules) x (k .loadable) f;
+      counted = rw (length-append (s .rules) (x ∷ [])) (omega arith);
     }
 
 -- ---- a step
 pub outcome-kept : (s : State) (q : Option Call) (o : Outcome) → Invariant s → Sound s q o → Invariant (stateAfter s o)
 unfolding stateAfter Sound
 outcome-kept s q (refuses n) k h = k
-outcome-kept s q (loads n r) k h = rule-kept s r k (h .0) (h .1)
+outcome-kept s q (loads n r) k h = rule-kept s r k (h .0) (h .1) (h .2)
 outcome-kept s q (allows x) k h = made-kept s q x k h
 outcome-kept s q (inhibits n) k h = k
 outcome-kept s q (modifies n c x) k h = made-kept s q x k h
 
 pub sound : (s : State) → Invariant s → (bytes : List ℕ) → Sound s (callOf bytes) (outcome s bytes)
-sound s k bytes = outcome-sound s (k .linking) (k .entries) bytes (k .loadable)
+sound s k bytes = outcome-sound s (k .linking) (k .entries) (k .quiet) bytes (k .loadable)
 
 pub step-kept : (s : State) (x : Step) → Invariant s → Invariant (stepState s x)
 unfolding stepState
@@ -118,17 +127,19 @@ state-kept steps zero = fresh-kept
 state-kept steps (suc k) = step-kept (stateAt steps k) (stepAt steps k) (state-kept steps k)
 
 pub invariant-keeps : (s : State) → Invariant s → Kept s
-unfolding holds itemsOf
+unfolding holds itemsOf descriptor
 invariant-keeps s k =
     record {
       along = k .along;
       bare = k .bare;
       unbroken = k .unbroken;
       loadable = k .loadable;
+      counted = k .counted;
       live = linked-used s (k .linking .feeders) (k .linking .fed);
       joined = linked-joins s (k .linking .feeders) (k .linking .fed);
       described = λ n. each-at leads (s .descriptors) n (k .entries .described);
       named = λ n. each-at isFile (s .names) n (k .entries .named);
+      dead = k .quiet .dead;
       reached = reach-exact s (fed-bound s (k .linking));
     }
 

@@ -10,6 +10,7 @@ pub mod Moves
 pub mod After
 pub mod Accepted
 pub mod Entries
+pub mod Blocks
 pub mod Outcomes
 pub mod Keeping
 pub mod TwoRuns

@@ -8,7 +8,7 @@ use mathlib.Core.List.{List, [], _∷_, _++_}
 use mathlib.Core.Option.{Option, none, some}
 use lib.Dec.{ltb, eqb}
 use lib.ListN.{length}
-use borrow.Author.Tests.{ltb-true, not-true, not-false, eqb-true}
+use borrow.Author.Tests.{ltb-true, leb-false, not-true, not-false, eqb-true}
 use Rattle.flow.specs.Tables.{Test, _⇒_}
 use Rattle.flow.specs.Box.{own, leads, Rule, State, descriptor}
 use Rattle.flow.specs.Links.{used}
@@ -29,19 +29,21 @@ use Rattle.flow.proofs.Moves.{Fit}
 use Rattle.flow.proofs.After.{Linking}
 use Rattle.flow.proofs.Accepted.{Accepted, fits-process, linking-after, fits-after}
 use Rattle.flow.proofs.Entries.{Entries, entries-after}
+use Rattle.flow.proofs.Blocks.{Quiet, quiet-after}
 
 -- a change that a record makes
 pub record Made (s : State) (q : Option Call) (x : Change) : Type 0 where
   pub fit : Fit s (x .tables) (x .flow)
   pub linking : Linking (x .tables)
   pub entries : Entries (x .tables)
+  pub quiet : Quiet (x .tables)
   pub rules : x .tables .rules ≡ s .rules
   pub unbroken : lowestBroken (after s x) ≡ none
   pub labelled : (u i : ℕ) → x .flow ≡ arrival u i → labelOf q ≡ some i
 
 unfoldable pub Sound : State → Option Call → Outcome → Type 0
 Sound s q (refuses n) = Unit {0}
-Sound s q (loads n r) = (broken s r ≡ false) × (wellFormed r ≡ true)
+Sound s q (loads n r) = (broken s r ≡ false) × (wellFormed r ≡ true) × (length (s .rules) < 32)
 Sound s q (allows x) = Made s q x
 Sound s q (inhibits n) = Unit {0}
 Sound s q (modifies n c x) = Made s q x
@@ -149,7 +151,7 @@ pub none-is : (o : Option Numbered) → _≡_ {A = Bool} (elim o as (λ z. Bool)
 none-is none h = refl
 none-is (some x) h = no-both h refl
 
-module _ (s : State) (k : Linking s) (t : Entries s) where
+module _ (s : State) (k : Linking s) (t : Entries s) (u : Quiet s) where
   change-made : (q : Call) → Accepted s q → lowestBroken (after s (change s q)) ≡ none → Made s (some q) (change s q)
   unfolding change
   change-made q h e =
@@ -157,6 +159,7 @@ module _ (s : State) (k : Linking s) (t : Entries s) where
         fit = fits-after s k (q .process) (q .a) (q .b) (q .c) (q .kind) h;
         linking = linking-after s k (q .process) (q .a) (q .b) (q .c) (q .kind) h;
         entries = entries-after s t (q .process) (q .a) (q .b) (q .c) (q .kind) h;
+        quiet = quiet-after s k u (q .process) (q .a) (q .b) (q .c) (q .kind) h;
         rules = rules-after s (q .process) (q .a) (q .b) (q .c) (q .kind);
         unbroken = e;
         labelled = label-brings s (q .process) (q .a) (q .b) (q .c) (q .kind);
@@ -177,6 +180,7 @@ module _ (s : State) (k : Linking s) (t : Entries s) where
         );
         linking = k;
         entries = t;
+        quiet = u;
         rules = refl;
         unbroken = f;
         labelled = λ u i z. cc;
@@ -200,13 +204,14 @@ module _ (s : State) (k : Linking s) (t : Entries s) where
   unfolding callTests AllFalse
   accepted-call q h = record { fits = not-false (fieldsFit (ranges (q .kind)) q) (h .0); lives = h .1 .0; free = h .1 .1 .0; there = h .1 .1 .1 .0 }
 
-  accepted-rule : (r : Rule) → AllFalse (ruleTests s r) → (broken s r ≡ false) × (wellFormed r ≡ true)
+  accepted-rule : (r : Rule) → AllFalse (ruleTests s r) → (broken s r ≡ false) × (wellFormed r ≡ true) × (length (s .rules) < 32)
   unfolding ruleTests AllFalse wellFormed
   accepted-rule r h = (
     h .1 .1 .1 .1 .0,
     and-i (ltb (r .action) 2 && (itemsFit (r .condition) && substituteFits r)) _
         (and-i (ltb (r .action) 2) _ (not-false (ltb (r .action) 2) (h .0)) (not-false (itemsFit (r .condition) && substituteFits r) (h .1 .0)))
         (ap not (h .1 .1 .0)),
+    leb-false 32 (length (s .rules)) (h .1 .1 .1 .0),
   )
 
   tests-sound : (bytes : List ℕ) (b : Bool) (o : Option Call) → eqb (tagOf bytes) callTag ≡ b → callOf bytes ≡ o → allWellFormed (s .rules) ≡ true

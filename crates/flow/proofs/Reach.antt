@@ -11,7 +11,7 @@ use borrow.Author.Tests.{ltb-true, leb-true, eqb-true, eqb-false, eq-eqb, ne-eqb
 use Rattle.sets.specs.Sets.{has, only, _∪_, _∩_, count}
 use Rattle.sets.proofs.Members.{union-has, inter-has, only-has, none-has, union-lt, only-lt, set-ext, some-member, count-part, count-le}
 use Rattle.flow.specs.Box.{isProcess, own, State, feedersOf, fedBy}
-use Rattle.flow.specs.Links.{linked, Leads, here, onward, meets, through, follow, settle, reach}
+use Rattle.flow.specs.Links.{linked, Reaches, here, onward, meets, through, follow, settle, reach}
 use Rattle.flow.proofs.Bools.{or-elim, or-l, or-r, and-l, and-r, and-i, by, no-both, choice, chosen-l}
 
 -- ---- processes and their links
@@ -91,11 +91,11 @@ module _ (s : State) where
   through-fed : (x p v : ℕ) → has x (own p) ≡ true → has (fedBy s p) v ≡ true → has (through s x p) v ≡ true
   through-fed x p v h k = through-adds x p v (or-l _ _ h) (union-has (only (own p)) _ v ∙ or-r (has (only (own p)) v) _ k)
 
-  through-leads : (u p : ℕ) → p < 16 → (x : ℕ) → ((v : ℕ) → has x v ≡ true → Leads s u v) → (v : ℕ) → has (through s x p) v ≡ true → Leads s u v
+  through-leads : (u p : ℕ) → p < 16 → (x : ℕ) → ((v : ℕ) → has x v ≡ true → Reaches s u v) → (v : ℕ) → has (through s x p) v ≡ true → Reaches s u v
   unfolding through
   through-leads u p hp x f v =
-      choice (λ z. has z v ≡ true → Leads s u v) (has x (own p) || meets x (feedersOf s p)) _ x
-      (λ e h. let at : Leads s u (own p) =
+      choice (λ z. has z v ≡ true → Reaches s u v) (has x (own p) || meets x (feedersOf s p)) _ x
+      (λ e h. let at : Reaches s u (own p) =
       or-elim (has x (own p)) (meets x (feedersOf s p)) (f (own p))
       (λ k. let w = meets-at x (feedersOf s p) k in onward (f (w .0) (w .1)) (link-in s p hp (w .0) (w .2))) e in
       or-elim (has x v) (has (only (own p) ∪ fedBy s p) v) (f v)
@@ -121,7 +121,7 @@ module _ (s : State) where
       go (yes e) g = rw e at (f (follow s n x) (follow-keeps n x))
       go (no e) g = through-keeps (follow s n x) n v (g (omega arith))
 
-  follow-leads : (u n : ℕ) → n ≤ 16 → (x : ℕ) → ((v : ℕ) → has x v ≡ true → Leads s u v) → (v : ℕ) → has (follow s n x) v ≡ true → Leads s u v
+  follow-leads : (u n : ℕ) → n ≤ 16 → (x : ℕ) → ((v : ℕ) → has x v ≡ true → Reaches s u v) → (v : ℕ) → has (follow s n x) v ≡ true → Reaches s u v
   unfolding follow
   follow-leads u zero l x f = f
   follow-leads u (suc n) l x f = through-leads u n (omega arith) (follow s n x) (follow-leads u n (omega arith) x f)
@@ -132,15 +132,15 @@ module _ (s : State) where
   settle-keeps (suc n) x i h =
       choice (λ z. has z i ≡ true) (eqb (follow s 16 x) x) x _ (λ e. h) (λ e. settle-keeps n (follow s 16 x) i (follow-keeps 16 x i h))
 
-  settle-leads : (u n x : ℕ) → ((v : ℕ) → has x v ≡ true → Leads s u v) → (v : ℕ) → has (settle s n x) v ≡ true → Leads s u v
+  settle-leads : (u n x : ℕ) → ((v : ℕ) → has x v ≡ true → Reaches s u v) → (v : ℕ) → has (settle s n x) v ≡ true → Reaches s u v
   unfolding settle
   settle-leads u zero x f = f
   settle-leads u (suc n) x f =
-      choice (λ z. (v : ℕ) → has z v ≡ true → Leads s u v) (eqb (follow s 16 x) x) x _ (λ e. f)
+      choice (λ z. (v : ℕ) → has z v ≡ true → Reaches s u v) (eqb (follow s 16 x) x) x _ (λ e. f)
       (λ e. settle-leads u n (follow s 16 x) (follow-leads u 16 (omega arith) x f))
 
   -- nothing is in the reach but what links lead to
-  pub reach-leads : (u v : ℕ) → has (reach s u) v ≡ true → Leads s u v
+  pub reach-leads : (u v : ℕ) → has (reach s u) v ≡ true → Reaches s u v
   unfolding reach
   reach-leads u v h = settle-leads u _ (only u) (λ w k. rw (← (eqb-true u w (sym (only-has u w) ∙ k))) here) v h
 
@@ -197,15 +197,15 @@ module _ (s : State) where
         (λ p hp e k. follow-by 16 (reach s u) p w hp (λ y part. through-fed y p w (part (own p) (rw e at a)) k))
         l)
 
-    leads-reach : (u : ℕ) → u < 64 → {v : ℕ} → Leads s u v → has (reach s u) v ≡ true
+    leads-reach : (u : ℕ) → u < 64 → {v : ℕ} → Reaches s u v → has (reach s u) v ≡ true
     leads-reach u h here = reach-here u
     leads-reach u h (onward l k) = reach-onward u _ _ h (leads-reach u h l) k
 
-    pub reach-exact : (u v : ℕ) → u < 64 → has (reach s u) v ≡ true ↔ Leads s u v
+    pub reach-exact : (u v : ℕ) → u < 64 → has (reach s u) v ≡ true ↔ Reaches s u v
     reach-exact u v h = (reach-leads u v, λ l. leads-reach u h l)
 
     -- a set with u in it, nothing that links don't lead to, and no link that leads out of it, is the reach
-    pub is-reach : (u x : ℕ) → u < 64 → x < 2 ^ 64 → has x u ≡ true → ((v : ℕ) → has x v ≡ true → Leads s u v)
+    pub is-reach : (u x : ℕ) → u < 64 → x < 2 ^ 64 → has x u ≡ true → ((v : ℕ) → has x v ≡ true → Reaches s u v)
         → ((v w : ℕ) → has x v ≡ true → linked s v w ≡ true → has x w ≡ true) → x ≡ reach s u
     is-reach u x hu hx at only-leads shut =
         set-ext x (reach s u) hx (reach-lt u hu)
@@ -213,6 +213,6 @@ module _ (s : State) where
         (λ e. e ∙ sym (leads-reach u hu (only-leads i e)))
         (λ e. by (has (reach s u) i) (λ f. no-both (inside (reach-leads u i f)) e) (λ f. e ∙ sym f)))
       where
-        inside : {v : ℕ} → Leads s u v → has x v ≡ true
+        inside : {v : ℕ} → Reaches s u v → has x v ≡ true
         inside here = at
         inside (onward l m) = shut _ _ (inside l) m

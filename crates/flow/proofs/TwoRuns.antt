@@ -19,7 +19,7 @@ use Rattle.flow.specs.Rules.{holds, breaks, broken, firstBroken, lowestB
 use Rattle.flow.specs.Records.{callOf}
 use Rattle.flow.specs.Verdicts.{Outcome, refuses, loads, allows, inhibits, modifies, outcome, withRule, stateAfter}
 use Rattle.flow.specs.Queries.{result, itemsQuery}
-use Rattle.flow.specs.Contents.{Step, entry, memory, Linked, Machine, flowed, changed, contentsAfter, linkedTo, stepContents, stepState, stepAt, stateAt, Run, runAt, labelOf, itemLabelled}
+use Rattle.flow.specs.Contents.{Step, entry, memory, Feeder, Machine, flowed, changed, contentsAfter, linkedTo, stepContents, stepState, stepAt, stateAt, Run, runAt, labelOf, itemLabelled}
 use Rattle.flow.specs.TwoRuns.{Clean, Forbidden, first, later, Barred, Agree, Demand3}
 use Rattle.flow.proofs.Bools.{or-r, and-l, and-r, and-i, or-false-l, or-false-r, and-false-l, and-false-r, by, no-both, choices, chosen-l}
 use Rattle.flow.proofs.TableLaws.{none-of}
@@ -159,7 +159,7 @@ module _ (W : Type 0) (M : Machine W) (chosen : ℕ → Bool) where
     seen-same v hv f (suc u) l =
         let rest : linkedTo M s κ₁ v u ≡ linkedTo M s κ₂ v u = seen-same v hv f u (omega arith) in
         choices (linked s u v) _ _ _ _
-        (λ e. ap₂ (λ (y : W) (ys : List (Linked W)). record { container = u; contents = y } ∷ ys)
+        (λ e. ap₂ (λ (y : W) (ys : List (Feeder W)). record { container = u; contents = y } ∷ ys)
         (same u (omega arith) (λ i h c. by (holds s u i) (λ a. no-both (k .along u v i (omega arith) hv e a) (f i h c)) (λ a. a))) rest)
         (λ e. rest)
 
@@ -167,7 +167,7 @@ module _ (W : Type 0) (M : Machine W) (chosen : ℕ → Bool) where
         → Same (stepState s x) (stepContents M n x₁ s x κ₁) (stepContents M n x₂ s x κ₂)
     unfolding stepState stepContents itemLabelled
     step-same (entry bytes) equal = record-same (callOf bytes) (outcome s bytes) (sound s k bytes) equal
-    step-same memory equal = λ v hv f. ap₂ (λ (y : W) (ys : List (Linked W)). M .memory v y n ys) (same v hv f) (seen-same v hv f 64 (omega arith))
+    step-same memory equal = λ v hv f. ap₂ (λ (y : W) (ys : List (Feeder W)). M .memory v y n ys) (same v hv f) (seen-same v hv f 64 (omega arith))
 
 -- ---- every moment
 module _ (W : Type 0) (M : Machine W) (chosen : ℕ → Bool) (steps : List Step) (in₁ in₂ : ℕ → W) (agree : Agree chosen steps in₁ in₂) where

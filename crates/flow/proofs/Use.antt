@@ -10,7 +10,7 @@ use borrow.Author.Tests.{ltb-true, ltb-false, leb-true, lt-ltb, le-ltb, le-leb, 
 use Rattle.sets.specs.Sets.{has}
 use Rattle.flow.specs.Tables.{isIn}
 use Rattle.flow.specs.Box.{isDevice, isProcess, isFile, own, leads, closed, slot, State, feedersOf, fedBy, descriptor}
-use Rattle.flow.specs.Links.{linked, Leads, here, onward, reach, mapped, used}
+use Rattle.flow.specs.Links.{linked, Reaches, here, onward, reach, mapped, used}
 use Rattle.flow.proofs.Bools.{or-elim, or-l, or-r, and-l, and-r, and-i, by, no-both, chosen-l, chosen-r}
 use Rattle.flow.proofs.TableLaws.{some-of, is-in}
 use Rattle.flow.proofs.Reach.{process-range, is-process, own-process, own-number, link-cases, reach-leads}
@@ -73,7 +73,7 @@ module _ (s : State) where
         (λ p hp e k. inr (rw e (own-process p hp), fed-row p .maps v k))
         l
 
-    leads-used : {u v : ℕ} → used s u ≡ true → Leads s u v → used s v ≡ true
+    leads-used : {u v : ℕ} → used s u ≡ true → Reaches s u v → used s v ≡ true
     leads-used h here = h
     leads-used h (onward l k) = linked-used _ _ k .1
 

@@ -9,7 +9,7 @@ use lib.ListN.{getD, replicate}
 abbrev pub containerCount : ℕ
 containerCount = 64
 
--- containers 0 to 7 are devices
+-- containers 0 to 7 are devices: 0 the network, 1 the front panel, 2 the radio, 3 the service port, 4 to 7 spare
 abbrev pub deviceCount : ℕ
 deviceCount = 8
 

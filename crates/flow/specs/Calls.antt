@@ -62,7 +62,7 @@ pub record Call : Type 0 where
 
 -- ---- how items move
 pub data Flow : Type 0 where
-  still : Flow  -- none does
+  still : Flow  -- no item moves
   gift : ℕ → ℕ → Flow  -- what the first container holds is given to the second
   arrival : ℕ → ℕ → Flow  -- the item, second, comes in from outside and is given to the container, first
   exchange : ℕ → ℕ → Flow  -- each of the two is given what the other holds, both from the state before

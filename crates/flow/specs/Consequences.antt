@@ -1,27 +1,38 @@
--- Short consequences of the definitions, for every state and every byte string.
-use Prim.Native.Nat.{ℕ, suc, _<_}
+-- Short consequences of the definitions. They hold for every state and every byte string, but for the last two, which speak of the states
+-- that steps make.
+use Prim.Native.Nat.{ℕ, suc, _≤_, _<_}
 use mathlib.Core.Path.{_≡_}
 use mathlib.Core.Logic.{_↔_}
-use mathlib.Core.Bool.{true, false}
+use mathlib.Core.Bool.{Bool, true, false, _&&_}
 use mathlib.Core.List.{List, [], _∷_, _++_, map}
 use mathlib.Core.Option.{none, some}
-use lib.ListN.{length}
-use Rattle.flow.specs.Box.{containerCount, processCount, own, Rule, State, itemsOf}
+use lib.ListN.{getD, length, take}
+use Rattle.flow.specs.Tables.{Test, _⇒_}
+use Rattle.flow.specs.Box.{containerCount, processCount, descriptorCount, own, Rule, State, itemsOf, descriptor}
 use Rattle.flow.specs.Links.{linked, used}
 use Rattle.flow.specs.Calls.{Kind, fork, kindNumber, Call, Change, change, after}
 use Rattle.flow.specs.Rules.{holds, broken, Numbered, lowestBroken}
 use Rattle.flow.specs.Records.{recordLength, kindOf, callOf, recordsOf}
-use Rattle.flow.specs.Refusals.{refusal}
-use Rattle.flow.specs.Verdicts.{allows, modifies, outcome, refused, inhibit, answer, next, runLog}
+use Rattle.flow.specs.Refusals.{recordTests, refusal}
+use Rattle.flow.specs.Verdicts.{allows, inhibits, modifies, diversion, mayDivert, breaksNone, outcome, refused, allow, inhibit, answer, next, answerAll, runLog}
 use Rattle.flow.specs.Contents.{Step, entry, stateAt}
 
 -- a record is refused with the first number of its tests that applies, and every other record is accepted
 unfoldable pub RefusedExactly : Type 0
 RefusedExactly = (s : State) (bytes : List ℕ) (n : ℕ) → answer s bytes ≡ refused n ↔ refusal s bytes ≡ some n
 
--- each kind has its number
+-- a test of the list holds, and its number is m
+pub data Applies (m : ℕ) : List Test → Type 0 where
+  this-test : {b : Bool} {ts : List Test} → b ≡ true → Applies m ((b ⇒ m) ∷ ts)
+  later-test : {t : Test} {ts : List Test} → Applies m ts → Applies m (t ∷ ts)
+
+-- the number of a refusal is the lowest that applies
+unfoldable pub LowestRefusal : Type 0
+LowestRefusal = (s : State) (bytes : List ℕ) (n m : ℕ) → refusal s bytes ≡ some n → Applies m (recordTests s bytes) → n ≤ m
+
+-- each kind has its number, and no other number is known
 unfoldable pub KindsNumbered : Type 0
-KindsNumbered = (k : Kind) → kindOf (kindNumber k) ≡ some k
+KindsNumbered = (n : ℕ) (k : Kind) → kindOf n ≡ some k ↔ n ≡ kindNumber k
 
 -- an allowed or modified call breaks no rule after it
 unfoldable pub PassedBreaksNone : Type 0
@@ -39,6 +50,18 @@ pub data LowestIn (s : State) (x : Numbered) : ℕ → List Rule → Type 0 wher
 unfoldable pub LowestReported : Type 0
 LowestReported = (s : State) (x : Numbered) → lowestBroken s ≡ some x → LowestIn s x 0 (s .rules)
 
+-- A call that is not refused is allowed exactly if no rule is broken after it. Otherwise the lowest broken rule decides: the call is
+-- modified exactly if that rule may divert it and the diverted write breaks no rule, and inhibited in every other case.
+unfoldable pub VerdictExactly : Type 0
+VerdictExactly =
+    (s : State) (bytes : List ℕ) (q : Call) → refusal s bytes ≡ none → callOf bytes ≡ some q
+    → (let t = after s (change s q) in
+    (lowestBroken t ≡ none → outcome s bytes ≡ allows (change s q))
+    × ((x : Numbered) → lowestBroken t ≡ some x
+    → (let d = diversion s q (x .rule) in
+    (mayDivert s q (x .rule) ≡ true → lowestBroken (after s d) ≡ none → outcome s bytes ≡ modifies (x .number) (x .rule .substitute) d)
+    × ((mayDivert s q (x .rule) && breaksNone (after s d)) ≡ false → outcome s bytes ≡ inhibits (x .number)))))
+
 -- where no rule is broken, a call that adds no item anywhere is allowed
 unfoldable pub NoGainAllowed : Type 0
 NoGainAllowed =
@@ -53,6 +76,12 @@ StoppedKeeps =
 -- a log gives one answer for each of its records
 unfoldable pub OneAnswerEach : Type 0
 OneAnswerEach = (s : State) (log : List ℕ) → length (runLog s log .answers) ≡ length (recordsOf log)
+
+-- and that to a record is its answer in the state that the records before it leave
+unfoldable pub AnswersInOrder : Type 0
+AnswersInOrder =
+    (s : State) (log : List ℕ) (k : ℕ) → k < length (recordsOf log)
+    → getD (runLog s log .answers) k allow ≡ answer (answerAll s (take k (recordsOf log)) .state) (getD (recordsOf log) k [])
 
 -- A log is a row of records: each is as long as its header says, but for a last one whose header or value runs past the end.
 pub data RowOf : List ℕ → List (List ℕ) → Type 0 where
@@ -69,11 +98,11 @@ LogIsSteps =
     (steps : List Step) (log : List ℕ)
     → (let more = steps ++ map entry (recordsOf log) in runLog (stateAt steps (length steps)) log .state ≡ stateAt more (length more))
 
--- a forked child has the parent's items and links, in each direction
+-- a forked child has the parent's items, descriptors and links, in each direction
 unfoldable pub ForkCopies : Type 0
 ForkCopies =
     (steps : List Step) (k p a : ℕ) → p < processCount → a < processCount
     → (let s = stateAt steps k in
     let t = after s (change s (record { kind = fork; process = p; a = a; b = 0; c = 0 })) in
     used s (own a) ≡ false
-    → (itemsOf t (own a) ≡ itemsOf s (own p)) × ((u : ℕ) → linked t u (own a) ≡ linked s u (own p)) × ((v : ℕ) → linked t (own a) v ≡ linked s (own p) v))
+    → (itemsOf t (own a) ≡ itemsOf s (own p)) × ((d : ℕ) → d < descriptorCount → descriptor t a d ≡ descriptor s p d) × ((u : ℕ) → linked t u (own a) ≡ linked s u (own p)) × ((v : ℕ) → linked t (own a) v ≡ linked s (own p) v))

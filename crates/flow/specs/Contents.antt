@@ -1,4 +1,4 @@
--- Document 01, The contents in demand 3: a plain machine, apart from the tracker.
+-- Document 01, The contents in demand 3: a plain machine, apart from the code.
 use Prim.Native.Nat.{ℕ, zero, suc}
 use mathlib.Core.Bool.{Bool, true, false}
 use mathlib.Core.List.{List, [], _∷_}
@@ -17,8 +17,8 @@ pub data Step : Type 0 where
   entry : List ℕ → Step
   memory : Step
 
--- a container and its contents
-pub record Linked (W : Type 0) : Type 0 where
+-- a container that links to another, and its contents
+pub record Feeder (W : Type 0) : Type 0 where
   pub container : ℕ
   pub contents : W
 
@@ -30,10 +30,10 @@ pub record Machine (W : Type 0) : Type 0 where
   pub gift : ℕ → W → ℕ → W → W
   pub bothGifts : ℕ → W → ℕ → W → W → W
   pub fork : ℕ → W → ℕ → W → W
-  pub memory : ℕ → W → ℕ → List (Linked W) → W
+  pub memory : ℕ → W → ℕ → List (Feeder W) → W
 
 module _ {W : Type 0} (m : Machine W) where
-  -- the items move at the place n; s is the state before, input what a label brings in, κ the contents before
+  -- what a flow at place n makes of the contents of container v: s is the state before, input what a label brings in, κ the contents before
   unfoldable pub flowed : ℕ → W → State → Flow → (ℕ → W) → ℕ → W
   flowed n input s still κ v = κ v
   flowed n input s (gift g u) κ v = elim (has (reach s u) v) [ true ↦ m .gift v (κ v) n (κ g) | false ↦ κ v ]
@@ -50,7 +50,7 @@ module _ {W : Type 0} (m : Machine W) where
   unfoldable pub changed : ℕ → W → State → Change → (ℕ → W) → ℕ → W
   changed n input s x κ v = elim (ended s (x .tables) v) [ true ↦ m .empty | false ↦ flowed n input s (x .flow) κ v ]
 
-  -- no other record changes contents
+  -- allowed and modified calls make their change; no other record changes contents
   unfoldable pub contentsAfter : ℕ → W → State → Outcome → (ℕ → W) → ℕ → W
   contentsAfter n input s (refuses k) κ = κ
   contentsAfter n input s (loads k r) κ = κ
@@ -59,7 +59,7 @@ module _ {W : Type 0} (m : Machine W) where
   contentsAfter n input s (modifies k c x) κ = changed n input s x κ
 
   -- of the containers below n, those that link to v, with their contents
-  unfoldable pub linkedTo : State → (ℕ → W) → ℕ → ℕ → List (Linked W)
+  unfoldable pub linkedTo : State → (ℕ → W) → ℕ → ℕ → List (Feeder W)
   linkedTo s κ v zero = []
   linkedTo s κ v (suc u) =
       elim (linked s u v) [ true ↦ record { container = u; contents = κ u } ∷ linkedTo s κ v u | false ↦ linkedTo s κ v u ]

@@ -16,6 +16,7 @@ DifferOnlyAt i steps in₁ in₂ = (n : ℕ) → (itemLabelled (stepAt steps n) 
 -- functions of the machine and two inputs by which the contents of container c at moment k differ
 pub record Influence (steps : List Step) (k c i : ℕ) : Type 0 where
   pub machine : Machine ℕ
+  pub from-zero : machine .empty ≡ 0
   pub in₁ : ℕ → ℕ
   pub in₂ : ℕ → ℕ
   pub only-labels : DifferOnlyAt i steps in₁ in₂

@@ -1,15 +1,15 @@
 -- What every record keeps, from the fresh state on.
-use Prim.Native.Nat.{ℕ, _<_}
+use Prim.Native.Nat.{ℕ, _≤_, _<_}
 use mathlib.Core.Path.{_≡_}
 use mathlib.Core.Logic.{_⊎_, _↔_}
 use mathlib.Core.Bool.{Bool, true, false, not, _&&_}
 use mathlib.Core.List.{List, [], _∷_}
 use mathlib.Core.Option.{none}
 use lib.Dec.{ltb}
-use lib.ListN.{getD}
+use lib.ListN.{getD, length}
 use Rattle.sets.specs.Sets.{has}
-use Rattle.flow.specs.Box.{containerCount, isProcess, isFile, leads, closed, Rule, State, itemsOf}
-use Rattle.flow.specs.Links.{linked, used, Leads, reach}
+use Rattle.flow.specs.Box.{containerCount, processCount, descriptorCount, ruleCount, isProcess, isFile, leads, closed, Rule, State, itemsOf, descriptor}
+use Rattle.flow.specs.Links.{linked, used, Reaches, reach}
 use Rattle.flow.specs.Rules.{holds, lowestBroken}
 use Rattle.flow.specs.Refusals.{itemsFit, substituteFits, sameItems}
 use Rattle.flow.specs.Contents.{Step, stateAt}
@@ -23,23 +23,26 @@ allWellFormed [] = true
 allWellFormed (r ∷ rs) = wellFormed r && allWellFormed rs
 
 pub record Kept (s : State) : Type 0 where
-  -- items go along links
+  -- where u links to v, v holds what u holds
   pub along : (u v i : ℕ) → u < containerCount → v < containerCount → linked s u v ≡ true → holds s u i ≡ true → holds s v i ≡ true
   -- what is not in use holds nothing
   pub bare : (c : ℕ) → c < containerCount → used s c ≡ false → itemsOf s c ≡ 0
   -- no loaded rule is broken
   pub unbroken : lowestBroken s ≡ none
-  -- each could have been loaded
+  -- refusals 4, 5 and 9 apply to none of them, and there are at most 32
   pub loadable : allWellFormed (s .rules) ≡ true
-  -- a linked process is live, and so is everything that is linked in use
+  pub counted : length (s .rules) ≤ ruleCount
+  -- everything that is linked is in use, so a linked process is live
   pub live : (u v : ℕ) → linked s u v ≡ true → (used s u ≡ true) × (used s v ≡ true)
   -- a link joins a process and a device, a file or a pipe
   pub joined : (u v : ℕ) → linked s u v ≡ true → ((leads u ≡ true) × (isProcess v ≡ true)) ⊎ ((isProcess u ≡ true) × (leads v ≡ true))
-  -- descriptors lead to devices, files and pipes, and names to files and pipes
+  -- a descriptor is closed or leads to a device, a file or a pipe, a name is unbound or leads to a file or pipe
   pub described : (k : ℕ) → (getD (s .descriptors) k closed ≡ closed) ⊎ (leads (getD (s .descriptors) k closed) ≡ true)
   pub named : (k : ℕ) → (getD (s .names) k closed ≡ closed) ⊎ (isFile (getD (s .names) k closed) ≡ true)
+  -- a dead process has no open descriptor
+  pub dead : (p d : ℕ) → p < processCount → d < descriptorCount → has (s .live) p ≡ false → descriptor s p d ≡ closed
   -- the reach is what links lead to
-  pub reached : (u v : ℕ) → u < containerCount → has (reach s u) v ≡ true ↔ Leads s u v
+  pub reached : (u v : ℕ) → u < containerCount → has (reach s u) v ≡ true ↔ Reaches s u v
 
 unfoldable pub EveryRecordKeeps : Type 0
 EveryRecordKeeps = (steps : List Step) (k : ℕ) → Kept (stateAt steps k)

@@ -14,9 +14,9 @@ unfoldable pub linked : State → ℕ → ℕ → Bool
 linked s u v = (isProcess v && has (feedersOf s (v - firstProcess)) u) || (isProcess u && has (fedBy s (u - firstProcess)) v)
 
 -- links lead from u to v, over any number of steps
-pub data Leads (s : State) (u : ℕ) : ℕ → Type 0 where
-  here : Leads s u u
-  onward : {v w : ℕ} → Leads s u v → linked s v w ≡ true → Leads s u w
+pub data Reaches (s : State) (u : ℕ) : ℕ → Type 0 where
+  here : Reaches s u u
+  onward : {v w : ℕ} → Reaches s u v → linked s v w ≡ true → Reaches s u w
 
 -- ---- the reach of u as a set: u and everything that links lead to from it (l* in document 000)
 -- two sets have a common member
@@ -39,7 +39,7 @@ settle s (suc n) x =
     let y = follow s processCount x in
     elim (eqb y x) [ true ↦ x | false ↦ settle s n y ]
 
--- each time but the last adds one of the 64 containers
+-- each time but the last adds at least one of the 64 containers
 unfoldable pub reach : State → ℕ → ℕ
 reach s u = settle s containerCount (only u)
 
@@ -52,7 +52,8 @@ given items r x = table containerCount (λ v. let y = getD items v 0 in elim (ha
 unfoldable pub mapped : State → ℕ → Bool
 mapped s c = someBelow processCount (λ p. has (feedersOf s p) c || has (fedBy s p) c)
 
--- devices are always in use, processes while live, files and pipes while a name, a descriptor or a link leads to or from them
+-- devices are always in use, processes while live, files and pipes while a name, a descriptor or a link leads to or from them.
+-- (A number above 63 is no container: what this says of it decides nothing.)
 unfoldable pub used : State → ℕ → Bool
 used s c =
     elim (isDevice c) [

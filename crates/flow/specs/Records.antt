@@ -41,6 +41,7 @@ separateTag = 0x12
 abbrev pub confineTag : ℕ
 confineTag = 0x13
 
+-- 10 to 13 hex
 unfoldable pub knownTag : ℕ → Bool
 knownTag t = eqb t callTag || eqb t forbidTag || eqb t separateTag || eqb t confineTag
 
@@ -48,14 +49,14 @@ knownTag t = eqb t callTag || eqb t forbidTag || eqb t separateTag || eqb t conf
 unfoldable pub tagLength : ℕ → ℕ
 tagLength t = elim (eqb t callTag) [ true ↦ 5 | false ↦ elim (eqb t separateTag) [ true ↦ 4 | false ↦ 11 ] ]
 
+-- not the tag's length
 unfoldable pub wrongLength : List ℕ → Bool
 wrongLength bytes = not (eqb (statedLength bytes) (tagLength (tagOf bytes)))
 
 -- ---- a call: kind, process, a, b, c, a byte each
-unfoldable pub kindOf : ℕ → Option Kind
-kindOf n =
-    getD
-    (
+-- kinds by their number, from 0
+unfoldable pub kinds : List (Option Kind)
+kinds =
     none
     ∷ some start
     ∷ some openName
@@ -77,8 +78,9 @@ kindOf n =
     ∷ some exit
     ∷ some label
     ∷ []
-    )
-    n none
+
+unfoldable pub kindOf : ℕ → Option Kind
+kindOf n = getD kinds n none
 
 -- a call of this kind, with the fields of the value
 unfoldable pub callIn : List ℕ → Option Kind → Option Call
@@ -93,7 +95,8 @@ callOf bytes =
       | false ↦ none
     ]
 
--- ---- a rule. A number from bytes, high byte first, after the number n
+-- ---- a rule
+-- the number of these bytes, high byte first, where the bytes before them make n
 unfoldable pub numberFrom : ℕ → List ℕ → ℕ
 numberFrom n [] = n
 numberFrom n (b ∷ bs) = numberFrom (256 * n + b) bs
@@ -106,6 +109,7 @@ setIn v = numberFrom 0 (take 8 (drop 1 v))
 unfoldable pub ruleWith : Condition → List ℕ → ℕ → Rule
 ruleWith condition v n = record { condition = condition; action = byteAt v n; substitute = byteAt v (suc n) }
 
+-- the rule in a record with a rule's tag
 unfoldable pub ruleOf : List ℕ → Rule
 ruleOf bytes =
     let v = valueOf bytes in

@@ -147,7 +147,7 @@ callTests s (some q) =
     ∷ (noFile s q ⇒ 10)
     ∷ []
 
--- ---- the tests of a rule
+-- ---- the tests of a rule: 11 where 32 rules are held, 12 where the present state breaks it
 unfoldable pub itemsFit : Condition → Bool
 itemsFit (forbid i x) = ltb i itemCount
 itemsFit (separate i j) = ltb i itemCount && ltb j itemCount

@@ -8,7 +8,7 @@ use Rattle.flow.specs.Tables.{table}
 use Rattle.flow.specs.Box.{State, fresh, itemsOf}
 use Rattle.flow.specs.Calls.{Kind, start, openName, create, pipe, device, dup, close, read, write, truncate, mapRead, mapBoth, unmap, unlink, rename, link, fork, exit, label, kindNumber}
 use Rattle.flow.specs.Verdicts.{Answer, refused, rule, allow, inhibit, modify, runLog}
-use Rattle.flow.specs.Contents.{Step, entry, memory, Linked, Machine, stateAt, runAt}
+use Rattle.flow.specs.Contents.{Step, entry, memory, Feeder, Machine, stateAt, runAt}
 
 -- a container, and the set of its items
 pub record Held : Type 0 where
@@ -32,7 +32,7 @@ outcomeOf x =
 unfoldable pub call : Kind → ℕ → ℕ → ℕ → ℕ → List ℕ
 call k p a b c = 0x10 ∷ 0 ∷ 5 ∷ kindNumber k ∷ p ∷ a ∷ b ∷ c ∷ []
 
--- rule records: item, the three lowest bytes and byte 3 of the container set (24 is bit 0 of byte 3), action, substitute
+-- a rule record of tag 11 or 13 hex: item, the four low bytes of the container set from the highest (container 24 is bit 0 of b3), action, substitute
 abbrev setRule : ℕ → ℕ → ℕ → ℕ → ℕ → ℕ → ℕ → ℕ → List ℕ
 setRule tag i b3 b2 b1 b0 action substitute = tag ∷ 0 ∷ 11 ∷ i ∷ 0 ∷ 0 ∷ 0 ∷ 0 ∷ b3 ∷ b2 ∷ b1 ∷ b0 ∷ action ∷ substitute ∷ []
 
@@ -59,11 +59,12 @@ renamed = filed ++ call rename 0 5 5 0
 unfoldable pub spare : List ℕ
 spare = setRule 0x11 0 0 0 0 0x80 0 0
 
-unfoldable pub times : List ℕ → List ℕ
-times l = let m = l ++ l ++ l ++ l in m ++ m ++ m ++ m ++ m ++ m ++ m ++ m
+-- a log 32 times over
+unfoldable pub thirtyTwo : List ℕ → List ℕ
+thirtyTwo l = let m = l ++ l ++ l ++ l in m ++ m ++ m ++ m ++ m ++ m ++ m ++ m
 
-unfoldable pub allows : ℕ → List Answer
-allows n = table n (λ k. allow)
+unfoldable pub allowed : ℕ → List Answer
+allowed n = table n (λ k. allow)
 
 unfoldable pub starred : List Check
 starred =
@@ -81,19 +82,19 @@ starred =
     -- F: pipe with descriptors 3 and 3, closed, with container 24 free, then with it in use
     ∷ check (call start 0 0 0 0 ++ call pipe 0 3 3 24 ++ call create 0 0 0 24 ++ call pipe 0 3 3 24) (allow ∷ refused 9 ∷ allow ∷ refused 7 ∷ []) []
     -- G: 8, 24 and 9 hold 2
-    ∷ check shared (allows 9) (holding 8 4 ∷ holding 24 4 ∷ holding 9 4 ∷ [])
+    ∷ check shared (allowed 9) (holding 8 4 ∷ holding 24 4 ∷ holding 9 4 ∷ [])
     -- H: truncate 24: it still holds 2. Process 0 unmaps 24 and truncates again: 24 is empty, 9 holds 2
-    ∷ check (shared ++ call truncate 0 0 0 0) (allows 10) (holding 24 4 ∷ [])
-    ∷ check (shared ++ call truncate 0 0 0 0 ++ call unmap 0 24 0 0 ++ call truncate 0 0 0 0) (allows 12) (holding 24 0 ∷ holding 9 4 ∷ [])
+    ∷ check (shared ++ call truncate 0 0 0 0) (allowed 10) (holding 24 4 ∷ [])
+    ∷ check (shared ++ call truncate 0 0 0 0 ++ call unmap 0 24 0 0 ++ call truncate 0 0 0 0) (allowed 12) (holding 24 0 ∷ holding 9 4 ∷ [])
     -- I: create, label, close: the item stays. Unlink too: 24 is empty and may be created again
-    ∷ check (filed ++ call close 0 0 0 0) (allows 4) (holding 24 2 ∷ [])
-    ∷ check (filed ++ call close 0 0 0 0 ++ call unlink 0 5 0 0) (allows 5) (holding 24 0 ∷ [])
-    ∷ check (filed ++ call close 0 0 0 0 ++ call unlink 0 5 0 0 ++ call create 0 5 0 24) (allows 6) (holding 24 0 ∷ [])
+    ∷ check (filed ++ call close 0 0 0 0) (allowed 4) (holding 24 2 ∷ [])
+    ∷ check (filed ++ call close 0 0 0 0 ++ call unlink 0 5 0 0) (allowed 5) (holding 24 0 ∷ [])
+    ∷ check (filed ++ call close 0 0 0 0 ++ call unlink 0 5 0 0 ++ call create 0 5 0 24) (allowed 6) (holding 24 0 ∷ [])
     -- J: rename of bound 5 to 5
-    ∷ check renamed (allows 4) (holding 24 2 ∷ [])
+    ∷ check renamed (allowed 4) (holding 24 2 ∷ [])
     -- K: a rule against item 1 in 24 while it is there; with 32 rules held
-    ∷ check (filed ++ setRule 0x11 1 1 0 0 0 0 0) (allow ∷ allow ∷ allow ∷ refused 12 ∷ []) []
-    ∷ check (times spare ++ spare) (table 32 rule ++ refused 11 ∷ []) []
+    ∷ check (filed ++ setRule 0x11 1 1 0 0 0 0 0) (allowed 3 ++ refused 12 ∷ []) []
+    ∷ check (filed ++ thirtyTwo spare ++ setRule 0x11 1 1 0 0 0 0 0) (allowed 3 ++ table 32 rule ++ refused 11 ∷ []) []
     -- L: rule on items 1 and 2; a process holding 1 reads 2
     ∷ check
     ((0x12 ∷ 0 ∷ 4 ∷ 1 ∷ 2 ∷ 0 ∷ 0 ∷ []) ++ call start 0 0 0 0 ++ call label 0 8 1 0 ++ call create 0 0 0 24 ++ call label 0 24 2 0 ++ call read 0 0 0 0)
@@ -112,17 +113,66 @@ starred =
 unfoldable pub Starred : Type 0
 Starred = (map outcomeOf starred ≡ starred) × (runLog fresh renamed .state ≡ runLog fresh filed .state)
 
+-- ---- further checks: run B's answers, and the rows of the table of refusals that no starred run meets
+unfoldable pub further : List Check
+further =
+    -- B
+    check
+    (call start 0 0 0 0 ++ call create 0 5 0 24 ++ call label 0 24 1 0 ++ setRule 0x11 1 0 0 0 2 1 3 ++ call device 0 1 1 0 ++ call read 0 0 0 0 ++ call write 0 1 0 0 ++ call write 0 2 0 0 ++ 0x10 ∷ 0 ∷ [])
+    (allowed 3 ++ rule 0 ∷ allow ∷ allow ∷ modify 0 3 ∷ refused 8 ∷ refused 1 ∷ [])
+    (holding 3 2 ∷ holding 1 0 ∷ [])
+    -- the lowest broken rule is number 1, and it inhibits although number 2 would divert
+    ∷ check
+    (spare ++ setRule 0x11 1 0 0 0 2 0 0 ++ setRule 0x11 1 0 0 0 2 1 3 ++ call start 0 0 0 0 ++ call label 0 8 1 0 ++ call device 0 0 1 0 ++ call write 0 0 0 0)
+    (rule 0 ∷ rule 1 ∷ rule 2 ∷ allow ∷ allow ∷ allow ∷ inhibit 1 ∷ [])
+    []
+    -- 1 before 2 and 3: the value runs past the end; 2 before 3; 3 before 4
+    ∷ check (0x20 ∷ 0 ∷ 1 ∷ []) (refused 1 ∷ []) []
+    ∷ check (0x20 ∷ 0 ∷ 1 ∷ 0 ∷ 0x10 ∷ 0 ∷ 1 ∷ 99 ∷ []) (refused 2 ∷ refused 3 ∷ []) []
+    -- 4 before 5, of a call and of a rule
+    ∷ check (0x10 ∷ 0 ∷ 5 ∷ 20 ∷ 99 ∷ 0 ∷ 0 ∷ 0 ∷ 0x12 ∷ 0 ∷ 4 ∷ 99 ∷ 99 ∷ 7 ∷ 0 ∷ []) (refused 4 ∷ refused 4 ∷ []) []
+    -- 5: label's process field, an unused field, a substitute under action 0, a process as the substitute; 5 before 9
+    ∷ check
+    (call label 1 0 0 0 ++ call start 0 0 0 1 ++ setRule 0x11 0 0 0 0 0 0 1 ++ setRule 0x11 0 0 0 0 0 1 8 ++ 0x12 ∷ 0 ∷ 4 ∷ 64 ∷ 64 ∷ 0 ∷ 0 ∷ [])
+    (refused 5 ∷ refused 5 ∷ refused 5 ∷ refused 5 ∷ refused 5 ∷ [])
+    []
+    -- 6, 7 before 8, 8, 9 of a rule, 10
+    ∷ check
+    (call read 0 0 0 0 ++ call start 0 0 0 0 ++ call device 0 0 1 0 ++ call openName 0 9 0 0 ++ call openName 0 9 1 0 ++ call unmap 0 24 0 0 ++ call label 0 24 0 0 ++ 0x12 ∷ 0 ∷ 4 ∷ 3 ∷ 3 ∷ 0 ∷ 0 ∷ [] ++ call truncate 0 0 0 0)
+    (refused 6 ∷ allow ∷ allow ∷ refused 7 ∷ refused 8 ∷ refused 8 ∷ refused 8 ∷ refused 9 ∷ refused 10 ∷ [])
+    []
+    -- a dead process leaves no descriptors and no links: started again it has none
+    ∷ check
+    (call start 0 0 0 0 ++ call create 0 0 0 24 ++ call mapBoth 0 0 0 0 ++ call exit 0 0 0 0 ++ call start 0 0 0 0 ++ call read 0 0 0 0 ++ call unmap 0 24 0 0 ++ call label 0 24 1 0)
+    (allowed 5 ++ refused 8 ∷ refused 8 ∷ allow ∷ [])
+    (holding 24 2 ∷ holding 8 0 ∷ [])
+    -- a child has the parent's descriptors, and its links in each direction
+    ∷ check
+    (call start 0 0 0 0 ++ call create 0 0 0 24 ++ call create 0 1 1 25 ++ call mapBoth 0 0 0 0 ++ call fork 0 1 0 0 ++ call label 0 24 1 0 ++ call label 0 9 2 0 ++ call write 1 1 0 0)
+    (allowed 8)
+    (holding 8 6 ∷ holding 9 6 ∷ holding 24 6 ∷ holding 25 6 ∷ [])
+    -- rename unbinds a, and empties what b led to; dup and link lead where a does
+    ∷ check
+    (call start 0 0 0 0 ++ call create 0 0 0 24 ++ call create 0 1 1 25 ++ call label 0 25 1 0 ++ call close 0 1 0 0 ++ call rename 0 0 1 0 ++ call openName 0 0 2 0 ++ call dup 0 0 3 0 ++ call label 0 24 2 0 ++ call read 0 3 0 0 ++ call link 0 1 4 0 ++ call openName 0 4 5 0)
+    (allowed 6 ++ refused 8 ∷ allowed 5)
+    (holding 25 0 ∷ holding 8 4 ∷ [])
+    ∷ []
+
+unfoldable pub Further : Type 0
+Further = map outcomeOf further ≡ further
+
 -- ---- contents do move
--- a machine that copies what it is given; memory adds up what links in
-unfoldable pub total : List (Linked ℕ) → ℕ
+-- the sum of the contents of what links to a container
+unfoldable pub total : List (Feeder ℕ) → ℕ
 total [] = 0
 total (x ∷ l) = x .contents + total l
 
-unfoldable pub remembered : ℕ → List (Linked ℕ) → ℕ
+unfoldable pub remembered : ℕ → List (Feeder ℕ) → ℕ
 remembered old [] = old
 remembered old (x ∷ l) = x .contents + total l
 
--- container c alone takes what is given
+-- a machine in which a gift goes by a function of the receiver's number, its contents and what is given, and a memory step takes the sum of
+-- what links to a container, where anything does
 unfoldable pub copying : (ℕ → ℕ → ℕ → ℕ) → Machine ℕ
 copying take = record { empty = 0; gift = λ v old n g. take v old g; bothGifts = λ v old n a b. old; fork = λ v old n p. p; memory = λ v old n l. remembered old l }
 

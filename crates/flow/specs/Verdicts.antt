@@ -31,7 +31,7 @@ mayDivert s q r = eqb (r .action) 1 && eqb (kindNumber (q .kind)) 9 && used s (r
 unfoldable pub breaksNone : State → Bool
 breaksNone s = elim (lowestBroken s) [ none ↦ true | some x ↦ false ]
 
--- what the lowest broken rule, number n, does about the call
+-- the outcome where the lowest broken rule is r, number n
 unfoldable pub stopped : State → Call → ℕ → Rule → Outcome
 stopped s q n r =
     elim (mayDivert s q r) [

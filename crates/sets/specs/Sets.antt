@@ -21,7 +21,7 @@ x ∪ y = bitOr x y
 unfoldable pub _∩_ : ℕ → ℕ → ℕ
 x ∩ y = bitAnd x y
 
--- the number of a digit
+-- 1 for true, 0 for false
 unfoldable pub bit : Bool → ℕ
 bit true = 1
 bit false = 0
