@@ -1,0 +1,288 @@
+-- For the queries: the set of the holders, built container by container; a slice into which the members of a set go, the lowest first; the answers.
+use Prim.Native.Nat.{ℕ, zero, suc, _+_, _*_, _/_, _%_, _^_, _≤_, _<_, zero-le}
+use native.Mathlib.Omega.{arith}
+use native.Mathlib.Numerals.{add-one}
+use native.Mathlib.Decide.{ℕ-discrete, decLt}
+use mathlib.Core.Path.{_≡_, refl, sym, ap, _∙_}
+use mathlib.Core.Bool.{Bool, true, false, not, _&&_, _||_}
+use mathlib.Core.Option.{Option, none, some}
+use mathlib.Core.List.{List, [], _∷_, _++_}
+use lib.Dec.{eqb, ltb}
+use lib.Count.{ones, ones-step, ones-le}
+use lib.ListN.{length, take, drop, getD, set, length-set}
+use lib.Seq.{take-suc-set, drop-set-lt, drop-drop}
+use borrow.Author.Tests.{eq-eqb, ne-eqb, lt-ltb, le-ltb, lt-leb, le-leb, ltb-true, ltb-false}
+use Rattle.sets.specs.Sets.{has, only, _∪_, bit, thoseFrom, those, without, count, lowest}
+use Rattle.sets.proofs.Members.{those-has, those-lt, without-has, without-lt, none-has, only-has, only-lt, union-has, union-lt, past-has, has-lt, set-ext, lowest-has}
+use Rattle.flow.specs.Tables.{firstThat}
+use Rattle.flow.specs.Box.{State, itemsOf}
+use Rattle.flow.specs.Rules.{holds}
+use Rattle.flow.specs.Queries.{refuse, result, itemsQuery, holders, holdersRefusal, replyBy, holdersQuery, occurs, Lists, SliceBy, HoldersSlice}
+use Rattle.flow.proofs.Bools.{by, chosen-l, chosen-r}
+use Rattle.tracker.specs.View.{state}
+use Rattle.tracker.specs.declared.queries.Reply.{Reply}
+use Rattle.tracker.specs.declared.queries.Reply.the-variants.{Result, Refused}
+use Rattle.tracker.specs.Replies.{replyOf, Answered, withHolder}
+
+or-none : (a : Bool) → a ≡ (a || false)
+or-none true = refl
+or-none false = refl
+
+and-all : (a : Bool) → a ≡ (a && true)
+and-all true = refl
+and-all false = refl
+
+and-none : (a : Bool) → (a && false) ≡ false
+and-none true = refl
+and-none false = refl
+
+-- ---- the set of the holders
+-- of the first n containers, those that hold item i
+pub foundTo : List ℕ → ℕ → ℕ → ℕ
+foundTo items i zero = 0
+foundTo items i (suc n) = withHolder (foundTo items i n) (getD items n 0) i n
+
+pub found-none : (items : List ℕ) (i : ℕ) → foundTo items i 0 ≡ 0
+unfolding foundTo
+found-none items i = refl
+
+found-more : (items : List ℕ) (i n : ℕ) → foundTo items i (n + 1) ≡ withHolder (foundTo items i n) (getD items n 0) i n
+unfolding foundTo
+found-more items i n = rw add-one
+
+pub found-next : (items : List ℕ) (i n x r : ℕ) → n < 64 → x ≡ foundTo items i n → r ≡ withHolder x (getD items n 0) i (n % 64) → r ≡ foundTo items i (n + 1)
+found-next items i n x r h e f =
+    let same : n % 64 ≡ n = omega arith in
+    rw (same, e) at f ∙ sym (found-more items i n)
+
+-- a turn of the loop
+pub took : (x m i c : ℕ) → has m i ≡ true → withHolder x m i c ≡ x ∪ only c
+unfolding withHolder
+took x m i c e = chosen-l (has m i) (x ∪ only c) x e
+
+pub passed : (x m i c : ℕ) → has m i ≡ false → withHolder x m i c ≡ x
+unfolding withHolder
+passed x m i c e = chosen-r (has m i) (x ∪ only c) x e
+
+turn-has : (x m i c j : ℕ) → has (withHolder x m i c) j ≡ (has x j || (has m i && eqb c j))
+turn-has x m i c j =
+    by (has m i) (λ e. rw (took x m i c e, union-has x (only c) j, only-has c j, e)) (λ e. rw (passed x m i c e, e) (or-none (has x j)))
+
+turn-lt : (x m i c : ℕ) → x < 2 ^ 64 → c < 64 → withHolder x m i c < 2 ^ 64
+turn-lt x m i c h l =
+    by (has m i) (λ e. rw (took x m i c e) (union-lt x (only c) h (only-lt c l))) (λ e. rw (passed x m i c e) h)
+
+found-lt : (items : List ℕ) (i n : ℕ) → n ≤ 64 → foundTo items i n < 2 ^ 64
+unfolding foundTo
+found-lt items i zero h = omega arith
+found-lt items i (suc n) h = turn-lt (foundTo items i n) (getD items n 0) i n (found-lt items i n (omega arith)) (omega arith)
+
+found-has : (items : List ℕ) (i n j : ℕ) → has (foundTo items i n) j ≡ (ltb j n && has (getD items j 0) i)
+unfolding foundTo
+found-has items i zero j = rw (le-ltb j 0 zero-le) (none-has j)
+found-has items i (suc n) j =
+    turn-has (foundTo items i n) (getD items n 0) i n j ∙ rw (found-has items i n j) (go (ℕ-discrete n j))
+  where
+    below : (n ≡ j → ⊥) → ltb j (suc n) ≡ ltb j n
+    below d =
+        by (ltb j n) (λ e. let h : j < n = ltb-true j n e in lt-ltb j (suc n) (omega arith) ∙ sym e)
+        (λ e. let h : n ≤ j = ltb-false j n e in le-ltb j (suc n) (omega arith) ∙ sym e)
+
+    go : Dec (n ≡ j) → ((ltb j n && has (getD items j 0) i) || (has (getD items n 0) i && eqb n j)) ≡ (ltb j (suc n) && has (getD items j 0) i)
+    go (yes e) = rw (← e, le-ltb n n (omega arith), lt-ltb n (suc n) (omega arith), eq-eqb n n refl) (sym (and-all (has (getD items n 0) i)))
+    go (no d) = rw (ne-eqb n j d, below d, and-none) (sym (or-none (ltb j n && has (getD items j 0) i)))
+
+pub found-all : (items : List ℕ) (i : ℕ) → foundTo items i 64 ≡ holders (state 0 items [] [] [] [] []) i
+unfolding holders holds itemsOf
+found-all items i =
+    set-ext (foundTo items i 64) (those (λ c. has (getD items c 0) i)) (found-lt items i 64 (omega arith)) (those-lt (λ c. has (getD items c 0) i))
+    (λ j h. found-has items i 64 j ∙ rw (lt-ltb j 64 h) (sym (those-has (λ c. has (getD items c 0) i) j h)))
+
+-- ---- how many members: with one taken out, one fewer
+ones-more : (n k : ℕ) (f : ℕ → Bool) → ones (thoseFrom (suc n) k f) ≡ bit (f k) + ones (thoseFrom n (suc k) f)
+unfolding thoseFrom bit
+ones-more n k f = go (f k) (thoseFrom n (suc k) f)
+  where
+    go : (b : Bool) (m : ℕ) → ones (bit b + 2 * m) ≡ bit b + ones m
+    go true m =
+        let e : (1 + 2 * m) / 2 ≡ m = omega arith in
+        omega (arith, ones-step (1 + 2 * m), ap ones e)
+    go false m =
+        let e : (0 + 2 * m) / 2 ≡ m = omega arith in
+        omega (arith, ones-step (0 + 2 * m), ap ones e)
+
+same-those : (n k : ℕ) (f g : ℕ → Bool) → ((j : ℕ) → k ≤ j → f j ≡ g j) → thoseFrom n k f ≡ thoseFrom n k g
+unfolding thoseFrom
+same-those zero k f g e = refl
+same-those (suc n) k f g e = rw (e k (omega arith), same-those n (suc k) f g (λ j h. e j (omega arith)))
+
+less : (f : ℕ → Bool) (c : ℕ) → f c ≡ true → (n k : ℕ) → k ≤ c → c < k + n
+    → ones (thoseFrom n k f) ≡ ones (thoseFrom n k (λ j. f j && not (eqb j c))) + 1
+unfolding bit
+less f c m zero k h l = absurd (omega arith)
+less f c m (suc n) k h l =
+    rw (ones-more n k f, ones-more n k (λ j. f j && not (eqb j c)))
+    (go (λ a. less f c m n (suc k) a (omega arith)) (ℕ-discrete k c))
+  where
+    rest : (n k : ℕ) → c < k → thoseFrom n k f ≡ thoseFrom n k (λ j. f j && not (eqb j c))
+    rest n k h = same-those n k f (λ j. f j && not (eqb j c)) (λ j l. rw (ne-eqb j c (λ e. omega arith)) (and-all (f j)))
+
+    go : (suc k ≤ c → ones (thoseFrom n (suc k) f) ≡ ones (thoseFrom n (suc k) (λ j. f j && not (eqb j c))) + 1) → Dec (k ≡ c)
+        → bit (f k) + ones (thoseFrom n (suc k) f) ≡ bit (f k && not (eqb k c)) + ones (thoseFrom n (suc k) (λ j. f j && not (eqb j c))) + 1
+    go later (yes e) = rw (e, m, eq-eqb c c refl, rest n (suc c) (omega arith)) (omega arith)
+    go later (no d) = rw (ne-eqb k c d, ← and-all (f k)) (omega (arith, later (omega arith)))
+
+count-less : (x c : ℕ) → x < 2 ^ 64 → has x c ≡ true → count x ≡ count (without x c) + 1
+unfolding count without those
+count-less x c h m =
+    ap ones (set-ext x (thoseFrom 64 0 (has x)) h (those-lt (has x)) (λ i l. sym (those-has (has x) i l)))
+    ∙ less (has x) c m 64 0 zero-le (has-lt x c h m)
+
+count-none : count 0 ≡ 0
+unfolding count
+count-none = omega (arith, ones-le 0 0 (omega arith))
+
+-- ---- the slice, by the loop that fills it
+occurs-snoc : (k c : ℕ) (l : List ℕ) → occurs k (l ++ (c ∷ [])) ≡ occurs k l + bit (eqb k c)
+unfolding occurs bit
+occurs-snoc k c [] = by (eqb k c) (λ e. rw e) (λ e. rw e)
+occurs-snoc k c (y ∷ l) = omega (arith, occurs-snoc k c l)
+
+-- the member c goes from the set into the list
+moved : (x c k : ℕ) → x < 2 ^ 64 → has x c ≡ true → bit (eqb k c) + bit (has (without x c) k) ≡ bit (has x k)
+unfolding bit
+moved x c k h m = go (decLt k 64) (ℕ-discrete k c)
+  where
+    go : Dec (k < 64) → Dec (k ≡ c) → bit (eqb k c) + bit (has (without x c) k) ≡ bit (has x k)
+    go (yes l) (yes e) = rw (without-has x c k l, e, eq-eqb c c refl, m)
+    go (yes l) (no d) = rw (without-has x c k l, ne-eqb k c d, ← and-all (has x k)) (omega arith)
+    go (no l) d =
+        rw (past-has x k h (omega arith), past-has (without x c) k (without-lt x c) (omega arith), ne-eqb k c (λ e. omega (arith, has-lt x c h m)))
+
+-- the first n elements of `now` are members of x, each once, those left are the others, and the elements from n on are as before
+pub record Partly (x : ℕ) (before now : List ℕ) (left n : ℕ) : Type 0 where
+  pub small : left < 2 ^ 64
+  pub number : n + count left ≡ count x
+  pub long : length now ≡ length before
+  pub listed : (k : ℕ) → occurs k (take n now) + bit (has left k) ≡ bit (has x k)
+  pub rest : drop n now ≡ drop n before
+
+pub partly-none : (x : ℕ) (l : List ℕ) → x < 2 ^ 64 → Partly x l l x 0
+unfolding occurs
+partly-none x l h = record { small = h; number = omega arith; long = refl; listed = λ k. omega arith; rest = refl }
+
+-- what a turn needs, where c is the lowest member of those left, and what it ends with, where `later` is left then
+pub record Turn (x : ℕ) (before now : List ℕ) (left n c : ℕ) : Type 0 where
+  pub below : c < 64
+  pub room : n < length now
+  pub fewer : (later : ℕ) → later ≡ without left (c % 64) → count later < count left
+  pub next : (later : ℕ) → later ≡ without left (c % 64) → Partly x before (set now n c) later (n + 1)
+
+module _ (x : ℕ) (before now : List ℕ) (left n : ℕ) (p : Partly x before now left n) where
+  module _ (more : left ≡ 0 → ⊥) (fits : count x ≤ length before) (c : ℕ) (is : c ≡ lowest left) where
+    member : has left c ≡ true
+    member = rw is (lowest-has left (p .small) (omega (arith, more)))
+
+    one-less : count left ≡ count (without left c) + 1
+    one-less = count-less left c (p .small) member
+
+    in-range : n < length now
+    in-range = omega (arith, one-less)
+
+    same : c % 64 ≡ c
+    same = omega (arith, has-lt left c (p .small) member)
+
+    after : Partly x before (set now n c) (without left c) (n + 1)
+    after =
+        record {
+          small = without-lt left c;
+          number = omega (arith, one-less);
+          long = length-set now n c ∙ p .long;
+          listed = λ k.
+              rw (add-one, take-suc-set now n c in-range, occurs-snoc k c (take n now))
+              (omega (arith, moved left c k (p .small) member, p .listed k));
+          rest = drop-set-lt (n + 1) now n c (omega arith) ∙ sym (drop-drop 1 n now) ∙ ap (drop 1) (p .rest) ∙ drop-drop 1 n before;
+        }
+
+    pub partly-more : Turn x before now left n c
+    partly-more =
+        record {
+          below = has-lt left c (p .small) member;
+          room = in-range;
+          fewer = λ later e. rw (e, same) (omega (arith, one-less));
+          next = λ later e. rw (e, same) after;
+        }
+
+  module _ (over : left ≡ 0) where
+    all-of : n ≡ count x
+    all-of = omega (arith, ap count over, count-none)
+
+    pub partly-all : (length now ≡ length before) × Lists (take (count x) now) x × (drop (count x) now ≡ drop (count x) before)
+    unfolding Lists bit
+    partly-all = rw (← all-of) (p .long, (λ k. omega (arith, p .listed k, ap (λ y. bit (has y k)) over, ap bit (none-has k))), p .rest)
+
+-- ---- the answers, in any state
+module _ (s : State) (i : ℕ) where
+  pub items-given : i < 64 → replyOf (Result (itemsOf s i)) ≡ itemsQuery s i
+  unfolding replyOf itemsQuery
+  items-given h = sym (chosen-l (ltb i 64) (result (itemsOf s i)) (refuse 5) (lt-ltb i 64 h))
+
+  pub items-refused : 64 ≤ i → replyOf (Refused 5) ≡ itemsQuery s i
+  unfolding replyOf itemsQuery
+  items-refused h = sym (chosen-r (ltb i 64) (result (itemsOf s i)) (refuse 5) (le-ltb i 64 h))
+
+  module _ (before : List ℕ) where
+    range : 64 ≤ i → holdersRefusal s i (length before) ≡ some 5
+    unfolding holdersRefusal firstThat
+    range h = rw (le-leb 64 i h)
+
+    pub refused-range : 64 ≤ i → Answered s i before (Refused 5) before
+    unfolding replyOf holdersQuery replyBy HoldersSlice SliceBy
+    refused-range h = record { answer = rw (range h); slice = rw (range h) refl }
+
+    -- the set x is found and its n members are counted
+    module _ (h : i < 64) (x n : ℕ) (found : x ≡ holders s (i % 64)) (counted : n ≡ count x) where
+      is-set : x ≡ holders s i
+      is-set = let e : i % 64 ≡ i = omega arith in rw e at found
+
+      short : length before < n → holdersRefusal s i (length before) ≡ some 13
+      unfolding holdersRefusal firstThat
+      short l = rw (lt-leb 64 i h, ← is-set, ← counted, lt-ltb (length before) n l)
+
+      pub refused-short : length before < n → Answered s i before (Refused 13) before
+      unfolding replyOf holdersQuery replyBy HoldersSlice SliceBy
+      refused-short l = record { answer = rw (short l); slice = rw (short l) refl }
+
+      fitting : n ≤ length before → holdersRefusal s i (length before) ≡ none
+      unfolding holdersRefusal firstThat
+      fitting l = rw (lt-leb 64 i h, ← is-set, ← counted, le-ltb (length before) n l)
+
+      pub holders-given : (now : List ℕ) → n ≤ length before
+          → (length now ≡ length before) × Lists (take (count x) now) x × (drop (count x) now ≡ drop (count x) before)
+          → Answered s i before (Result n) now
+      unfolding replyOf holdersQuery replyBy HoldersSlice SliceBy
+      holders-given now l f = record { answer = rw (fitting l, ← is-set, counted); slice = rw (fitting l, ← is-set) f }
+
+-- ---- the query for the holders goes by their set alone
+module _ (s t : State) (i : ℕ) (e : holders s i ≡ holders t i) where
+  refusal-by : (room : ℕ) → holdersRefusal s i room ≡ holdersRefusal t i room
+  unfolding holdersRefusal
+  refusal-by room = rw e
+
+  reply-by : (o : Option ℕ) → replyBy s i o ≡ replyBy t i o
+  unfolding replyBy
+  reply-by (some n) = refl
+  reply-by none = rw e
+
+  slice-by : (o : Option ℕ) (before now : List ℕ) → SliceBy s i o before now → SliceBy t i o before now
+  unfolding SliceBy
+  slice-by (some n) before now f = f
+  slice-by none before now f = rw e at f
+
+  pub answered-by : {before : List ℕ} {r : Reply} {now : List ℕ} → Answered s i before r now → Answered t i before r now
+  unfolding holdersQuery HoldersSlice
+  answered-by {before} {r} {now} a =
+      record {
+        answer = a .answer ∙ ap (replyBy s i) (refusal-by (length before)) ∙ reply-by (holdersRefusal t i (length before));
+        slice = slice-by (holdersRefusal t i (length before)) before now (rw (refusal-by (length before)) at (a .slice));
+      }

@@ -1,0 +1,11 @@
+pub mod LookupLaws
+pub mod Spreading
+pub mod Releasing
+pub mod Searching
+pub mod BlockLaws
+pub mod Effects
+pub mod CallEffects
+pub mod Tests
+pub mod CallAnswers
+pub mod Holders
+pub mod Dispatch

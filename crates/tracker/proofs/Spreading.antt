@@ -1,0 +1,124 @@
+-- Loops that store at each place of a table in turn, and the reach by its links alone.
+use Prim.Native.Nat.{ℕ, zero, suc, _+_, _%_, _≤_, _<_}
+use native.Mathlib.Omega.{arith}
+use native.Mathlib.Nat.{not-suc-le-zero, mod-eq-of-lt}
+use native.Mathlib.Decide.{ℕ-discrete}
+use native.Mathlib.Numerals.{add-one}
+use mathlib.Core.Path.{_≡_, refl, sym, ap, ap₂, _∙_}
+use mathlib.Core.Bool.{Bool, true, false, _||_}
+use mathlib.Core.List.{List}
+use lib.Dec.{eqb}
+use lib.ListN.{getD, set, length, length-set}
+use lib.Seq.{ext-getD, getD-set-same, getD-set-other, set-getD}
+use Rattle.sets.specs.Sets.{has, only, _∪_}
+use Rattle.sets.proofs.Members.{none-has}
+use Rattle.flow.specs.Tables.{tableFrom, table}
+use Rattle.flow.specs.Box.{own, State, feedersOf, fedBy}
+use Rattle.flow.specs.Links.{given, meets, through, follow, settle, reach}
+use Rattle.flow.proofs.Bools.{choices, chosen-r}
+use Rattle.flow.proofs.TableLaws.{table-at}
+use Rattle.tracker.specs.Marks.{giveTurn, cleared}
+
+-- ---- tables
+tableFrom-length : {A : Type 0} (n k : ℕ) (f : ℕ → A) → length (tableFrom n k f) ≡ n
+unfolding tableFrom
+tableFrom-length zero k f = refl
+tableFrom-length (suc n) k f = ap suc (tableFrom-length n (suc k) f)
+
+pub table-length : {A : Type 0} (n : ℕ) (f : ℕ → A) → length (table n f) ≡ n
+unfolding table
+table-length n f = tableFrom-length n 0 f
+
+-- a list of n elements is the table of them
+pub is-table : (n : ℕ) (f : ℕ → ℕ) (l : List ℕ) → length l ≡ n → ((i : ℕ) → i < n → getD l i 0 ≡ f i) → l ≡ table n f
+is-table n f l e h = ext-getD 0 l (table n f) (e ∙ sym (table-length n f)) (λ i b. let m : i < n = omega arith in h i m ∙ sym (table-at n f i 0 m))
+
+-- ---- a turn for each of 0 to n - 1, one after the other
+unfoldable pub turns : {A : Type 0} → (ℕ → A → A) → ℕ → A → A
+turns t zero a = a
+turns t (suc n) a = t n (turns t n a)
+
+pub turns-none : {A : Type 0} (t : ℕ → A → A) (a : A) → turns t 0 a ≡ a
+unfolding turns
+turns-none t a = refl
+
+pub turns-more : {A : Type 0} (t : ℕ → A → A) (n : ℕ) (a : A) → turns t (n + 1) a ≡ t n (turns t n a)
+unfolding turns
+turns-more t n a = rw (add-one)
+
+-- turn n stores f n x at place n, where x stood
+module _ (t : ℕ → List ℕ → List ℕ) (f : ℕ → ℕ → ℕ) (size : ℕ) (stores : (n : ℕ) (l : List ℕ) → n < size → t n l ≡ set l n (f n (getD l n 0))) where
+  turns-length : (n : ℕ) (l : List ℕ) → n ≤ size → length (turns t n l) ≡ length l
+  unfolding turns
+  turns-length zero l h = refl
+  turns-length (suc n) l h = ap length (stores n (turns t n l) h) ∙ length-set (turns t n l) n _ ∙ turns-length n l (omega arith)
+
+  turns-after : (n : ℕ) (l : List ℕ) (i : ℕ) → n ≤ size → n ≤ i → getD (turns t n l) i 0 ≡ getD l i 0
+  unfolding turns
+  turns-after zero l i h k = refl
+  turns-after (suc n) l i h k = rw (stores n (turns t n l) h, getD-set-other (turns t n l) n i _ 0 (omega arith)) (turns-after n l i (omega arith) (omega arith))
+
+  turns-before : (n : ℕ) (l : List ℕ) (i : ℕ) → n ≤ size → length l ≡ size → i < n → getD (turns t n l) i 0 ≡ f i (getD l i 0)
+  unfolding turns
+  turns-before zero l i h e k = absurd (not-suc-le-zero k)
+  turns-before (suc n) l i h e k = rw (stores n (turns t n l) h) (go (ℕ-discrete i n) (λ m. turns-before n l i (omega arith) e m))
+    where
+      go : Dec (i ≡ n) → (i < n → getD (turns t n l) i 0 ≡ f i (getD l i 0)) → getD (set (turns t n l) n (f n (getD (turns t n l) n 0))) i 0 ≡ f i (getD l i 0)
+      go (yes d) g =
+          rw (d, getD-set-same (turns t n l) n (f n (getD (turns t n l) n 0)) 0 (omega (arith, turns-length n l (omega arith))), turns-after n l n (omega arith) (omega arith))
+      go (no d) g = getD-set-other (turns t n l) n i _ 0 d ∙ g (omega arith)
+
+  -- after all turns the list is a table
+  pub turns-table : (l : List ℕ) → length l ≡ size → turns t size l ≡ table size (λ i. f i (getD l i 0))
+  turns-table l e = is-table size (λ i. f i (getD l i 0)) (turns t size l) (turns-length size l (omega arith) ∙ e) (λ i h. turns-before size l i (omega arith) e h)
+
+-- a turn that stores at n only where the test holds
+pub turn-stores : (b : ℕ → Bool) (g : ℕ → ℕ) (l : List ℕ) (n m : ℕ) → m ≡ n
+    → _≡_ {A = List ℕ} (elim (b m) [ true ↦ set l m (g m) | false ↦ l ]) (set l n (elim (b n) [ true ↦ g n | false ↦ getD l n 0 ]))
+turn-stores b g l n m e = ap (λ (k : ℕ). elim (b k) as (λ z. List ℕ) [ true ↦ set l k (g k) | false ↦ l ]) e ∙ go (b n)
+  where
+    go : (c : Bool) → _≡_ {A = List ℕ} (elim c [ true ↦ set l n (g n) | false ↦ l ]) (set l n (elim c [ true ↦ g n | false ↦ getD l n 0 ]))
+    go true = refl
+    go false = sym (set-getD l n 0)
+
+pub gives : (r x : ℕ) (l : List ℕ) → length l ≡ 64 → turns (giveTurn r x) 64 l ≡ given l r x
+unfolding given giveTurn
+gives r x =
+    turns-table (giveTurn r x) (λ v y. elim (has r v) [ true ↦ y ∪ x | false ↦ y ]) 64
+    (λ n l h. turn-stores (has r) (λ k. getD l k 0 ∪ x) l n (n % 64) (mod-eq-of-lt h))
+
+-- of the empty set nothing is cleared
+pub cleared-none : (l : List ℕ) → length l ≡ 64 → l ≡ cleared l 0
+unfolding cleared
+cleared-none l e = is-table 64 _ l e (λ i h. sym (chosen-r (has 0 i) 0 (getD l i 0) (none-has i)))
+
+pub given-length : (l : List ℕ) (r x : ℕ) → length (given l r x) ≡ 64
+unfolding given
+given-length l r x = table-length 64 _
+
+pub cleared-length : (l : List ℕ) (x : ℕ) → length (cleared l x) ≡ 64
+unfolding cleared
+cleared-length l x = table-length 64 _
+
+-- ---- the reach goes by the links alone
+module _ (s t : State) (ins : (p : ℕ) → feedersOf s p ≡ feedersOf t p) (outs : (p : ℕ) → fedBy s p ≡ fedBy t p) where
+  through-same : (x p : ℕ) → through s x p ≡ through t x p
+  unfolding through
+  through-same x p =
+      ap₂ (λ (a b : ℕ). elim (has x (own p) || meets x a) as (λ z. ℕ) [ true ↦ x ∪ (only (own p) ∪ b) | false ↦ x ]) (ins p) (outs p)
+
+  follow-same : (n x : ℕ) → follow s n x ≡ follow t n x
+  unfolding follow
+  follow-same zero x = refl
+  follow-same (suc n) x = through-same (follow s n x) n ∙ ap (λ (y : ℕ). through t y n) (follow-same n x)
+
+  settle-same : (n x : ℕ) → settle s n x ≡ settle t n x
+  unfolding settle
+  settle-same zero x = refl
+  settle-same (suc n) x =
+      ap (λ (y : ℕ). elim (eqb y x) as (λ z. ℕ) [ true ↦ x | false ↦ settle s n y ]) (follow-same 16 x)
+      ∙ choices (eqb (follow t 16 x) x) x x _ _ (λ e. refl) (λ e. settle-same n (follow t 16 x))
+
+  pub reach-same : (u : ℕ) → reach s u ≡ reach t u
+  unfolding reach
+  reach-same u = settle-same _ (only u)

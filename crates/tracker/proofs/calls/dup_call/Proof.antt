@@ -1,0 +1,77 @@
+-- `dup_call` is the call dup.
+use mathlib.Core.Path.{sym, _∙_}
+use borrow.Author.Tests.{not-true}
+use Rattle.flow.specs.Calls.{dup}
+use Rattle.flow.specs.Refusals.{fieldsFit, ranges, inRange}
+use Rattle.tracker.specs.Worked.{call}
+use Rattle.tracker.proofs.Tests.{five}
+use Rattle.tracker.proofs.CallAnswers.{dup-refuses, dup-works}
+use borrow.Author.Needs.{needs}
+use Rattle.tracker.proofs.calls.dup_call.Statement.{statement}
+use Rattle.tracker.proofs.calls.dup_call.Tie as tie
+use Rattle.tracker.proofs.calls.dup_call.Reads as reads
+use Rattle.tracker.proofs.calls.dup_call.Lts as lts
+use Rattle.tracker.proofs.calls.sizes.Reads as sizes-reads
+use Rattle.tracker.proofs.cells.is_live.Reads as is-live-reads
+use Rattle.tracker.proofs.cells.lowest.Reads as lowest-reads
+use Rattle.tracker.proofs.cells.set_descriptor.Reads as set-descriptor-reads
+use Rattle.tracker.proofs.cells.unfit.Reads as unfit-reads
+use Rattle.tracker.proofs.lookups.descriptor.Reads as descriptor-reads
+use Rattle.tracker.proofs.lookups.leads.Reads as leads-reads
+
+sizes-requires : tie.Need-sizes-requires
+sizes-requires c κs = search needs
+
+unfit-requires : tie.Need-unfit-requires
+unfit-requires c κs = search needs
+
+returns : tie.Need-returns
+unfolding fieldsFit ranges inRange
+returns c =
+    λ rules. five _ (call dup _ _ _ _) (not-true _ (sym (c .before .unfit .ensures) ∙ c .if1 .taken))
+
+descriptor-requires : tie.Need-descriptor-requires
+descriptor-requires c κs = search needs
+
+descriptor-requires-2 : tie.Need-descriptor-requires-2
+descriptor-requires-2 c κs = search needs
+
+is-live-requires : tie.Need-is-live-requires
+is-live-requires c κs = search needs
+
+leads-requires : tie.Need-leads-requires
+leads-requires c κs = search needs
+
+leads-requires-2 : tie.Need-leads-requires-2
+leads-requires-2 c κs = search needs
+
+lowest-requires : tie.Need-lowest-requires
+lowest-requires c κs = search needs
+
+returns-2 : tie.Need-returns-2
+returns-2 c =
+    λ rules. dup-refuses _ _ _ _ _ _ rules _ _ _ _ (c .before .before .before .before .before .before .before .before .before .before .before .before .before .before .before .before .before .before .before .before .before .sizes-arg2 .given .0) (c .before .before .before .before .before .before .before .before .before .before .before .before .before .before .before .before .before .before .before .sizes-arg4 .given .0) (c .before .before .before .before .before .before .before .before .before .before .before .before .before .before .before .before .before .sizes-arg6 .given .0) (c .before .before .before .before .before .before .before .before .before .before .before .before .before .before .before .sizes-arg8 .given .0) (c .before .before .before .before .before .before .before .before .before .before .before .before .before .sizes-arg10 .given .0) _ (c .before .before .before .before .before .before .before .before .before .before .before .unfit .ensures) (c .before .before .before .before .before .before .before .before .before .before .if1 .left) _ (c .before .before .before .before .before .before .before .before .descriptor .ensures) _ (c .before .before .before .before .before .before .descriptor2 .ensures) _ (c .before .before .before .before .is-live .ensures) _ (c .before .before .before .leads .ensures) _ (c .before .before .leads2 .ensures) _ (c .before .lowest .ensures) (c .if2 .taken)
+
+set-descriptor-requires : tie.Need-set-descriptor-requires
+set-descriptor-requires c κs = search needs
+
+returns-3 : tie.Need-returns-3
+returns-3 c =
+    λ rules. dup-works _ _ _ _ _ _ rules _ _ _ _ (c .before .before .before .before .before .before .before .before .before .before .before .before .before .before .before .before .before .before .before .before .before .before .before .sizes-arg2 .given .0) (c .before .before .before .before .before .before .before .before .before .before .before .before .before .before .before .before .before .before .before .before .before .sizes-arg4 .given .0) (c .before .before .before .before .before .before .before .before .before .before .before .before .before .before .before .before .before .before .before .sizes-arg6 .given .0) (c .before .before .before .before .before .before .before .before .before .before .before .before .before .before .before .before .before .sizes-arg8 .given .0) (c .before .before .before .before .before .before .before .before .before .before .before .before .before .before .before .sizes-arg10 .given .0) _ (c .before .before .before .before .before .before .before .before .before .before .before .before .before .unfit .ensures) (c .before .before .before .before .before .before .before .before .before .before .before .before .if1 .left) _ (c .before .before .before .before .before .before .before .before .before .before .descriptor .ensures) _ (c .before .before .before .before .before .before .before .before .descriptor2 .ensures) _ (c .before .before .before .before .before .before .is-live .ensures) _ (c .before .before .before .before .before .leads .ensures) _ (c .before .before .before .before .leads2 .ensures) _ (c .before .before .before .lowest .ensures) (c .before .before .if2 .left) _ (c .set-descriptor .ensures)
+
+pub dup-call-spec : {M : Type 1} → statement M
+dup-call-spec =
+    tie.close
+    (tie.spec
+    sizes-requires
+    unfit-requires
+    returns
+    descriptor-requires
+    descriptor-requires-2
+    is-live-requires
+    leads-requires
+    leads-requires-2
+    lowest-requires
+    returns-2
+    set-descriptor-requires
+    returns-3)

@@ -1,0 +1,98 @@
+-- `map_read_call` is the call map read.
+use mathlib.Core.Path.{sym, _∙_}
+use borrow.Author.Tests.{not-true}
+use Rattle.flow.specs.Calls.{mapRead}
+use Rattle.flow.specs.Refusals.{fieldsFit, ranges, inRange}
+use Rattle.tracker.specs.Worked.{call}
+use Rattle.tracker.proofs.Tests.{five}
+use Rattle.tracker.proofs.CallAnswers.{map-read-refuses, map-read-works}
+use borrow.Author.Needs.{needs}
+use Rattle.tracker.proofs.calls.map_read_call.Statement.{statement}
+use Rattle.tracker.proofs.calls.map_read_call.Tie as tie
+use Rattle.tracker.proofs.calls.map_read_call.Reads as reads
+use Rattle.tracker.proofs.calls.map_read_call.Lts as lts
+use Rattle.sets.proofs.with.Reads as with-reads
+use Rattle.tracker.proofs.calls.sizes.Reads as sizes-reads
+use Rattle.tracker.proofs.cells.is_live.Reads as is-live-reads
+use Rattle.tracker.proofs.cells.items_at.Reads as items-at-reads
+use Rattle.tracker.proofs.cells.lowest.Reads as lowest-reads
+use Rattle.tracker.proofs.cells.row.Reads as row-reads
+use Rattle.tracker.proofs.cells.set_row.Reads as set-row-reads
+use Rattle.tracker.proofs.cells.unfit.Reads as unfit-reads
+use Rattle.tracker.proofs.lookups.descriptor.Reads as descriptor-reads
+use Rattle.tracker.proofs.lookups.leads.Reads as leads-reads
+use Rattle.tracker.proofs.spread.give.Reads as give-reads
+use Rattle.tracker.proofs.spread.reach.Reads as reach-reads
+
+sizes-requires : tie.Need-sizes-requires
+sizes-requires c κs = search needs
+
+unfit-requires : tie.Need-unfit-requires
+unfit-requires c κs = search needs
+
+returns : tie.Need-returns
+unfolding fieldsFit ranges inRange
+returns c =
+    λ rules. five _ (call mapRead _ _ _ _) (not-true _ (sym (c .before .unfit .ensures) ∙ c .if1 .taken))
+
+descriptor-requires : tie.Need-descriptor-requires
+descriptor-requires c κs = search needs
+
+is-live-requires : tie.Need-is-live-requires
+is-live-requires c κs = search needs
+
+leads-requires : tie.Need-leads-requires
+leads-requires c κs = search needs
+
+lowest-requires : tie.Need-lowest-requires
+lowest-requires c κs = search needs
+
+returns-2 : tie.Need-returns-2
+returns-2 c =
+    λ rules. map-read-refuses _ _ _ _ _ _ rules _ _ _ _ (c .before .before .before .before .before .before .before .before .before .before .before .before .before .before .before .before .before .before .sizes-arg2 .given .0) (c .before .before .before .before .before .before .before .before .before .before .before .before .before .before .before .before .sizes-arg4 .given .0) (c .before .before .before .before .before .before .before .before .before .before .before .before .before .before .sizes-arg6 .given .0) (c .before .before .before .before .before .before .before .before .before .before .before .before .sizes-arg8 .given .0) (c .before .before .before .before .before .before .before .before .before .before .sizes-arg10 .given .0) _ (c .before .before .before .before .before .before .before .before .unfit .ensures) (c .before .before .before .before .before .before .before .if1 .left) _ (c .before .before .before .before .before .descriptor .ensures) _ (c .before .before .before .is-live .ensures) _ (c .before .before .leads .ensures) _ (c .before .lowest .ensures) (c .if2 .taken)
+
+items-at-requires : tie.Need-items-at-requires
+items-at-requires c κs = search needs
+
+add-t41 : tie.Need-add-t41
+add-t41 c = search needs
+
+reach-requires : tie.Need-reach-requires
+reach-requires c κs = search needs
+
+give-requires : tie.Need-give-requires
+give-requires c κs = search needs
+
+row-requires : tie.Need-row-requires
+row-requires c κs = search needs
+
+with-requires : tie.Need-with-requires
+with-requires c κs = search needs
+
+set-row-requires : tie.Need-set-row-requires
+set-row-requires c κs = search needs
+
+returns-3 : tie.Need-returns-3
+returns-3 c =
+    λ rules. map-read-works _ _ _ _ _ _ rules _ _ _ _ (c .before .before .before .before .before .before .before .before .before .before .before .before .before .before .before .before .before .before .before .before .before .before .before .before .before .before .before .before .before .before .sizes-arg2 .given .0) (c .before .before .before .before .before .before .before .before .before .before .before .before .before .before .before .before .before .before .before .before .before .before .before .before .before .before .before .before .sizes-arg4 .given .0) (c .before .before .before .before .before .before .before .before .before .before .before .before .before .before .before .before .before .before .before .before .before .before .before .before .before .before .sizes-arg6 .given .0) (c .before .before .before .before .before .before .before .before .before .before .before .before .before .before .before .before .before .before .before .before .before .before .before .before .sizes-arg8 .given .0) (c .before .before .before .before .before .before .before .before .before .before .before .before .before .before .before .before .before .before .before .before .before .before .sizes-arg10 .given .0) _ (c .before .before .before .before .before .before .before .before .before .before .before .before .before .before .before .before .before .before .before .before .unfit .ensures) (c .before .before .before .before .before .before .before .before .before .before .before .before .before .before .before .before .before .before .before .if1 .left) _ (c .before .before .before .before .before .before .before .before .before .before .before .before .before .before .before .before .before .descriptor .ensures) _ (c .before .before .before .before .before .before .before .before .before .before .before .before .before .before .before .is-live .ensures) _ (c .before .before .before .before .before .before .before .before .before .before .before .before .before .before .leads .ensures) _ (c .before .before .before .before .before .before .before .before .before .before .before .before .before .lowest .ensures) (c .before .before .before .before .before .before .before .before .before .before .before .before .if2 .left) _ (c .before .before .before .before .before .before .before .before .before .before .items-at .ensures) _ (c .before .before .before .before .before .before .before .reach .ensures) _ (c .before .before .before .before .before .give .ensures) _ (c .before .before .before .row .ensures) _ (c .before .before .with .ensures) _ (c .set-row .ensures)
+
+pub map-read-call-spec : {M : Type 1} → statement M
+map-read-call-spec =
+    tie.close
+    (tie.spec
+    sizes-requires
+    unfit-requires
+    returns
+    descriptor-requires
+    is-live-requires
+    leads-requires
+    lowest-requires
+    returns-2
+    items-at-requires
+    add-t41
+    reach-requires
+    give-requires
+    row-requires
+    with-requires
+    set-row-requires
+    returns-3)

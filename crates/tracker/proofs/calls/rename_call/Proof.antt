@@ -1,0 +1,82 @@
+-- `rename_call` is the call rename.
+use mathlib.Core.Path.{sym, _∙_}
+use borrow.Author.Tests.{not-true}
+use Rattle.flow.specs.Calls.{rename}
+use Rattle.flow.specs.Refusals.{fieldsFit, ranges, inRange}
+use Rattle.tracker.specs.Worked.{call}
+use Rattle.tracker.proofs.Tests.{five}
+use Rattle.tracker.proofs.CallAnswers.{rename-refuses, rename-works}
+use borrow.Author.Needs.{needs}
+use Rattle.tracker.proofs.calls.rename_call.Statement.{statement}
+use Rattle.tracker.proofs.calls.rename_call.Tie as tie
+use Rattle.tracker.proofs.calls.rename_call.Reads as reads
+use Rattle.tracker.proofs.calls.rename_call.Lts as lts
+use Rattle.tracker.proofs.calls.sizes.Reads as sizes-reads
+use Rattle.tracker.proofs.cells.is_live.Reads as is-live-reads
+use Rattle.tracker.proofs.cells.lowest.Reads as lowest-reads
+use Rattle.tracker.proofs.cells.set_name.Reads as set-name-reads
+use Rattle.tracker.proofs.cells.unfit.Reads as unfit-reads
+use Rattle.tracker.proofs.lookups.leads.Reads as leads-reads
+use Rattle.tracker.proofs.lookups.name.Reads as name-reads
+use Rattle.tracker.proofs.release.release_one.Reads as release-one-reads
+
+sizes-requires : tie.Need-sizes-requires
+sizes-requires c κs = search needs
+
+unfit-requires : tie.Need-unfit-requires
+unfit-requires c κs = search needs
+
+returns : tie.Need-returns
+unfolding fieldsFit ranges inRange
+returns c =
+    λ rules. five _ (call rename _ _ _ _) (not-true _ (sym (c .before .unfit .ensures) ∙ c .if1 .taken))
+
+name-requires : tie.Need-name-requires
+name-requires c κs = search needs
+
+is-live-requires : tie.Need-is-live-requires
+is-live-requires c κs = search needs
+
+leads-requires : tie.Need-leads-requires
+leads-requires c κs = search needs
+
+lowest-requires : tie.Need-lowest-requires
+lowest-requires c κs = search needs
+
+returns-2 : tie.Need-returns-2
+returns-2 c =
+    λ rules. rename-refuses _ _ _ _ _ _ rules _ _ _ _ (c .before .before .before .before .before .before .before .before .before .before .before .before .before .before .before .before .before .before .sizes-arg2 .given .0) (c .before .before .before .before .before .before .before .before .before .before .before .before .before .before .before .before .sizes-arg4 .given .0) (c .before .before .before .before .before .before .before .before .before .before .before .before .before .before .sizes-arg6 .given .0) (c .before .before .before .before .before .before .before .before .before .before .before .before .sizes-arg8 .given .0) (c .before .before .before .before .before .before .before .before .before .before .sizes-arg10 .given .0) _ (c .before .before .before .before .before .before .before .before .unfit .ensures) (c .before .before .before .before .before .before .before .if1 .left) _ (c .before .before .before .before .before .name .ensures) _ (c .before .before .before .is-live .ensures) _ (c .before .before .leads .ensures) _ (c .before .lowest .ensures) (c .if2 .taken)
+
+name-requires-2 : tie.Need-name-requires-2
+name-requires-2 c κs = search needs
+
+set-name-requires : tie.Need-set-name-requires
+set-name-requires c κs = search needs
+
+set-name-requires-2 : tie.Need-set-name-requires-2
+set-name-requires-2 c κs = search needs
+
+release-one-requires : tie.Need-release-one-requires
+release-one-requires c κs = search needs
+
+returns-3 : tie.Need-returns-3
+returns-3 c =
+    λ rules. rename-works _ _ _ _ _ _ rules _ _ _ _ (c .before .before .before .before .before .before .before .before .before .before .before .before .before .before .before .before .before .before .before .before .before .before .before .before .before .before .before .before .before .before .sizes-arg2 .given .0) (c .before .before .before .before .before .before .before .before .before .before .before .before .before .before .before .before .before .before .before .before .before .before .before .before .before .before .before .before .sizes-arg4 .given .0) (c .before .before .before .before .before .before .before .before .before .before .before .before .before .before .before .before .before .before .before .before .before .before .before .before .before .before .sizes-arg6 .given .0) (c .before .before .before .before .before .before .before .before .before .before .before .before .before .before .before .before .before .before .before .before .before .before .before .before .sizes-arg8 .given .0) (c .before .before .before .before .before .before .before .before .before .before .before .before .before .before .before .before .before .before .before .before .before .before .sizes-arg10 .given .0) _ (c .before .before .before .before .before .before .before .before .before .before .before .before .before .before .before .before .before .before .before .before .unfit .ensures) (c .before .before .before .before .before .before .before .before .before .before .before .before .before .before .before .before .before .before .before .if1 .left) _ (c .before .before .before .before .before .before .before .before .before .before .before .before .before .before .before .before .before .name .ensures) _ (c .before .before .before .before .before .before .before .before .before .before .before .before .before .before .before .is-live .ensures) _ (c .before .before .before .before .before .before .before .before .before .before .before .before .before .before .leads .ensures) _ (c .before .before .before .before .before .before .before .before .before .before .before .before .before .lowest .ensures) (c .before .before .before .before .before .before .before .before .before .before .before .before .if2 .left) _ (c .before .before .before .before .before .before .before .before .before .before .name2 .ensures) _ (c .before .before .before .before .before .before .before .before .set-name .ensures) _ (c .before .before .before .before .before .before .set-name2 .ensures) _ (c .release-one .ensures)
+
+pub rename-call-spec : {M : Type 1} → statement M
+rename-call-spec =
+    tie.close
+    (tie.spec
+    sizes-requires
+    unfit-requires
+    returns
+    name-requires
+    is-live-requires
+    leads-requires
+    lowest-requires
+    returns-2
+    name-requires-2
+    set-name-requires
+    set-name-requires-2
+    release-one-requires
+    returns-3)

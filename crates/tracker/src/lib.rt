@@ -1,0 +1,143 @@
+// The tracker (the information point): which items lie in which container, which containers feed each other, which names and descriptors
+// lead where. It makes the changes of document 01's calls, refuses what the table of refusals refuses, and answers the two queries.
+// No rule is judged here.
+pub mod blocks;
+pub mod calls;
+pub mod cells;
+pub mod lookups;
+pub mod numbers;
+pub mod queries;
+pub mod release;
+pub mod spread;
+
+ghost use mathlib.Core.Path.{_≡_};
+ghost use Rattle.flow.specs.Box.{fresh};
+ghost use Rattle.flow.specs.Queries.{itemsQuery};
+ghost use Rattle.tracker.specs.View.{view};
+ghost use Rattle.tracker.specs.Replies.{replyOf, Answered};
+ghost use Rattle.tracker.specs.Calling.{Called as CalledRight};
+ghost use Rattle.tracker.specs.Worked.{callFrom};
+use calls::call_in;
+use queries::Reply;
+
+// The state by value. The rules have their place in it: four bytes (tag, item, action, substitute) and a set each.
+pub struct Tracker {
+    live: u64,
+    items: [u64; 64],
+    feeders: [u64; 16],
+    fed: [u64; 16],
+    descriptors: [u8; 512],
+    names: [u8; 128],
+    sets: [u64; 32],
+    fields: [u8; 128],
+    loaded: u8,
+}
+
+// What a call gets here: its change is made, or it is refused with a number.
+pub enum Work {
+    Done,
+    Refused(u8),
+}
+
+pub struct Called {
+    pub work: Work,
+    pub tracker: Tracker,
+}
+
+impl Tracker {
+    pub const CONTAINERS: usize = 64;
+
+    pub const PROCESSES: usize = 16;
+
+    pub const DESCRIPTORS: usize = 512;
+
+    pub const NAMES: usize = 128;
+
+    pub const RULES: usize = 32;
+
+    pub const CLOSED: u8 = 255;
+
+    // The set of all files and pipes, 24 to 63.
+    pub const FILES: u64 = 0xFFFF_FFFF_FF00_0000;
+
+    // A fresh tracker: every descriptor closed, every name unbound, nothing else.
+    pub fn new() -> Tracker
+        ensures { λ r. ⌜ view r ≡ fresh ⌝ }
+    {
+        Tracker {
+            live: 0,
+            items: [0u64; 64],
+            feeders: [0u64; 16],
+            fed: [0u64; 16],
+            descriptors: [Tracker::CLOSED; 512],
+            names: [Tracker::CLOSED; 128],
+            sets: [0u64; 32],
+            fields: [0u8; 128],
+            loaded: 0,
+        }
+    }
+
+    // The items of container c.
+    pub fn items(self, c: u8) -> Reply
+        ensures { λ r. ⌜ replyOf r ≡ itemsQuery (view self) c ⌝ }
+    {
+        let items = self.items;
+        queries::items_in(&items, c)
+    }
+
+    // The containers that hold item i, at the front of `out`, and how many they are. A refusal leaves `out` as it was.
+    pub fn holders(self, i: u8, out: &mut [u16]) -> Reply
+        ensures { λ r. ⌜ Answered (view self) i (now (out .entry)) r (now (out .exit)) ⌝ }
+    {
+        let held = self.items;
+        queries::holders_in(&held, i, out)
+    }
+
+    // A call of any five bytes: kind, process, a, b, c.
+    pub fn call(self, kind: u8, p: u8, a: u8, b: u8, c: u8) -> Called
+        ensures { λ r. ⌜ CalledRight self (callFrom kind p a b c) r ⌝ }
+    {
+        let mut live = self.live;
+        let mut items = self.items;
+        let mut feeders = self.feeders;
+        let mut fed = self.fed;
+        let mut descriptors = self.descriptors;
+        let mut names = self.names;
+        let n = call_in(
+            &mut live,
+            &mut items,
+            &mut feeders,
+            &mut fed,
+            &mut descriptors,
+            &mut names,
+            kind,
+            p,
+            a,
+            b,
+            c,
+        );
+        if n != 0 {
+            return Called {
+                work: Work::Refused(n),
+                tracker: self,
+            };
+        }
+        let sets = self.sets;
+        let fields = self.fields;
+        let after = Tracker {
+            live: live,
+            items: items,
+            feeders: feeders,
+            fed: fed,
+            descriptors: descriptors,
+            names: names,
+            sets: sets,
+            fields: fields,
+            loaded: self.loaded,
+        };
+        Called {
+            work: Work::Done,
+            tracker: after,
+        }
+    }
+}

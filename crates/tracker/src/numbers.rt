@@ -1,0 +1,9 @@
+// Numbers of processes, containers, descriptors and names, each a type of its own (document 01, The box). They are built after their range
+// was tested.
+pub struct Process(pub u8);
+
+pub struct Container(pub u8);
+
+pub struct Descriptor(pub u8);
+
+pub struct Name(pub u8);

@@ -1,0 +1,81 @@
+// The two queries (document 01, What a record gets), on lent parts of the tracker: the items of a container as a 64-bit set, and the holders
+// of an item, whose numbers go into a lent slice.
+ghost use mathlib.Core.Path.{_≡_};
+ghost use mathlib.Core.List.{[]};
+ghost use Prim.Native.Nat.{_%_, _≤_};
+ghost use lib.ListN.{length, take, drop};
+ghost use Rattle.sets.specs.Sets.{count};
+ghost use Rattle.flow.specs.Queries.{itemsQuery, holders, Lists};
+ghost use Rattle.tracker.specs.View.{state};
+ghost use Rattle.tracker.specs.Replies.{replyOf, withHolder, Answered};
+
+// The result, or a refusal's number.
+pub enum Reply {
+    Result(u64),
+    Refused(u8),
+}
+
+// The items of container c.
+pub fn items_in(items: &[u64; 64], c: u8) -> Reply
+    ensures { λ r. ⌜ replyOf r ≡ itemsQuery (state 0 (now (items .entry)) [] [] [] [] []) c ⌝ }
+{
+    if c < 64 {
+        Reply::Result(items[c as usize])
+    } else {
+        Reply::Refused(5)
+    }
+}
+
+// x, with container c where the items of c have item i.
+fn with_holder(x: u64, items: u64, i: u8, c: u8) -> u64
+    ensures { λ r. ⌜ r ≡ withHolder x items (i % 64) (c % 64) ⌝ }
+{
+    if sets::member(items, i) {
+        sets::with(x, c)
+    } else {
+        x
+    }
+}
+
+// The containers that hold item i.
+fn holder_set(items: &[u64; 64], i: u8) -> u64
+    ensures { λ r. ⌜ r ≡ holders (state 0 (now (items .entry)) [] [] [] [] []) (i % 64) ⌝ }
+{
+    let mut x = 0;
+    for c in 0u8..64 {
+        let held = items[c as usize];
+        x = with_holder(x, held, i, c);
+    }
+    x
+}
+
+// The members of x, the lowest first, at the front of `out`, which has room for them.
+fn fill(x: u64, out: &mut [u16])
+    requires { ⌜ count x ≤ length (now out) ⌝ }
+    ensures { λ _. ⌜ (length (now (out .exit)) ≡ length (now (out .entry))) × Lists (take (count x) (now (out .exit))) x × (drop (count x) (now (out .exit)) ≡ drop (count x) (now (out .entry))) ⌝ }
+{
+    let mut left = x;
+    let mut n = 0;
+    while left != 0 {
+        let c = sets::lowest(left);
+        out[n] = c as u16;
+        left = sets::without(left, c as u8);
+        n += 1;
+    }
+}
+
+// The containers that hold item i, at the front of `out`, and how many they are. A refusal leaves `out` as it was.
+pub fn holders_in(items: &[u64; 64], i: u8, out: &mut [u16]) -> Reply
+    ensures { λ r. ⌜ Answered (state 0 (now (items .entry)) [] [] [] [] []) i (now (out .entry)) r (now (out .exit)) ⌝ }
+{
+    if 64 <= i {
+        return Reply::Refused(5);
+    }
+    let x = holder_set(items, i);
+    let n = sets::count(x) as u64;
+    if (out.len() as u64) < n {
+        return Reply::Refused(13);
+    }
+    fill(x, out);
+    Reply::Result(n)
+}
