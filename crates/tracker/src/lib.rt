@@ -1,14 +1,14 @@
 // The tracker (the information point): which items lie in which container, which containers feed each other, which names and descriptors
 // lead where. It makes the changes of document 01's calls, refuses what the table of refusals refuses, and answers the two queries.
 // No rule is judged here.
-pub mod blocks;
+mod blocks;
 pub mod calls;
-pub mod cells;
-pub mod lookups;
+mod cells;
+mod lookups;
 pub mod numbers;
 pub mod queries;
-pub mod release;
-pub mod spread;
+mod release;
+mod spread;
 
 ghost use mathlib.Core.Path.{_≡_};
 ghost use Rattle.flow.specs.Box.{fresh};

@@ -56,7 +56,7 @@ pub fn stands(table: &[u8], c: u8) -> bool
 }
 
 // The members of all sets of a slice.
-fn union_all(rows: &[u64]) -> u64
+pub fn union_of(rows: &[u64]) -> u64
     ensures { λ r. ⌜ r ≡ unionOf (now (rows .entry)) ⌝ }
 {
     let mut x = 0u64;
@@ -64,13 +64,6 @@ fn union_all(rows: &[u64]) -> u64
         x = x | rows[i];
     }
     x
-}
-
-// The members of sixteen sets.
-pub fn union_of(rows: &[u64; 16]) -> u64
-    ensures { λ r. ⌜ r ≡ unionOf (now (rows .entry)) ⌝ }
-{
-    union_all(rows)
 }
 
 // Whether a container is in use.
@@ -97,7 +90,7 @@ pub fn in_use(
     if stands(descriptors, n) {
         return true;
     }
-    sets::member(union_all(feeders) | union_all(fed), n)
+    sets::member(union_of(feeders) | union_of(fed), n)
 }
 
 // The set of e alone where e is a file or pipe.
@@ -132,7 +125,7 @@ pub fn used_set(
     ensures { λ r. ⌜ r ≡ usedSet (tables live (now (feeders .entry)) (now (fed .entry)) (now (descriptors .entry)) (now (names .entry))) ⌝ }
 {
     let files = 0xFFFF_FFFF_FF00_0000u64;
-    let mapped = (union_all(feeders) | union_all(fed)) & files;
+    let mapped = (union_of(feeders) | union_of(fed)) & files;
     let led = files_in(names) | files_in(descriptors);
     (live % 65536) * 256 | 0xFF | mapped | led
 }

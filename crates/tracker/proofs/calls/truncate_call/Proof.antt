@@ -56,14 +56,14 @@ member-requires c κs = search needs
 
 returns-3 : tie.Need-returns-3
 returns-3 c =
-    λ rules. truncate-keeps _ _ _ _ _ _ rules _ _ _ _ (c .before .before .before .before .before .before .before .before .before .before .before .before .before .before .before .before .before .before .before .before .before .before .sizes-arg2 .given .0) (c .before .before .before .before .before .before .before .before .before .before .before .before .before .before .before .before .before .before .before .before .sizes-arg4 .given .0) (c .before .before .before .before .before .before .before .before .before .before .before .before .before .before .before .before .before .before .sizes-arg6 .given .0) (c .before .before .before .before .before .before .before .before .before .before .before .before .before .before .before .before .sizes-arg8 .given .0) (c .before .before .before .before .before .before .before .before .before .before .before .before .before .before .sizes-arg10 .given .0) _ (c .before .before .before .before .before .before .before .before .before .before .before .before .unfit .ensures) (c .before .before .before .before .before .before .before .before .before .before .before .if1 .left) _ (c .before .before .before .before .before .before .before .before .before .descriptor .ensures) _ (c .before .before .before .before .before .before .before .is-live .ensures) _ (c .before .before .before .before .before .before .leads .ensures) _ (c .before .before .before .before .before .lowest .ensures) (c .before .before .before .before .if2 .left) _ (c .before .before .union-of .ensures) _ (c .before .member .ensures) (c .if3 .taken)
+    λ rules. truncate-keeps _ _ _ _ _ _ rules _ _ _ _ (c .before .before .before .before .before .before .before .before .before .before .before .before .before .before .before .before .before .before .before .before .before .before .before .sizes-arg2 .given .0) (c .before .before .before .before .before .before .before .before .before .before .before .before .before .before .before .before .before .before .before .before .before .sizes-arg4 .given .0) (c .before .before .before .before .before .before .before .before .before .before .before .before .before .before .before .before .before .before .before .sizes-arg6 .given .0) (c .before .before .before .before .before .before .before .before .before .before .before .before .before .before .before .before .before .sizes-arg8 .given .0) (c .before .before .before .before .before .before .before .before .before .before .before .before .before .before .before .sizes-arg10 .given .0) _ (c .before .before .before .before .before .before .before .before .before .before .before .before .before .unfit .ensures) (c .before .before .before .before .before .before .before .before .before .before .before .before .if1 .left) _ (c .before .before .before .before .before .before .before .before .before .before .descriptor .ensures) _ (c .before .before .before .before .before .before .before .before .is-live .ensures) _ (c .before .before .before .before .before .before .before .leads .ensures) _ (c .before .before .before .before .before .before .lowest .ensures) (c .before .before .before .before .before .if2 .left) _ (c .before .before .union-of .ensures) _ (c .before .member .ensures) (c .if3 .taken)
 
 set-items-requires : tie.Need-set-items-requires
 set-items-requires c κs = search needs
 
 returns-4 : tie.Need-returns-4
 returns-4 c =
-    λ rules. truncate-works _ _ _ _ _ _ rules _ _ _ _ (c .before .before .before .before .before .before .before .before .before .before .before .before .before .before .before .before .before .before .before .before .before .before .before .before .sizes-arg2 .given .0) (c .before .before .before .before .before .before .before .before .before .before .before .before .before .before .before .before .before .before .before .before .before .before .sizes-arg4 .given .0) (c .before .before .before .before .before .before .before .before .before .before .before .before .before .before .before .before .before .before .before .before .sizes-arg6 .given .0) (c .before .before .before .before .before .before .before .before .before .before .before .before .before .before .before .before .before .before .sizes-arg8 .given .0) (c .before .before .before .before .before .before .before .before .before .before .before .before .before .before .before .before .sizes-arg10 .given .0) _ (c .before .before .before .before .before .before .before .before .before .before .before .before .before .before .unfit .ensures) (c .before .before .before .before .before .before .before .before .before .before .before .before .before .if1 .left) _ (c .before .before .before .before .before .before .before .before .before .before .before .descriptor .ensures) _ (c .before .before .before .before .before .before .before .before .before .is-live .ensures) _ (c .before .before .before .before .before .before .before .before .leads .ensures) _ (c .before .before .before .before .before .before .before .lowest .ensures) (c .before .before .before .before .before .before .if2 .left) _ (c .before .before .before .before .union-of .ensures) _ (c .before .before .before .member .ensures) (c .before .before .if3 .left) _ (c .set-items .ensures)
+    λ rules. truncate-works _ _ _ _ _ _ rules _ _ _ _ (c .before .before .before .before .before .before .before .before .before .before .before .before .before .before .before .before .before .before .before .before .before .before .before .before .before .sizes-arg2 .given .0) (c .before .before .before .before .before .before .before .before .before .before .before .before .before .before .before .before .before .before .before .before .before .before .before .sizes-arg4 .given .0) (c .before .before .before .before .before .before .before .before .before .before .before .before .before .before .before .before .before .before .before .before .before .sizes-arg6 .given .0) (c .before .before .before .before .before .before .before .before .before .before .before .before .before .before .before .before .before .before .before .sizes-arg8 .given .0) (c .before .before .before .before .before .before .before .before .before .before .before .before .before .before .before .before .before .sizes-arg10 .given .0) _ (c .before .before .before .before .before .before .before .before .before .before .before .before .before .before .before .unfit .ensures) (c .before .before .before .before .before .before .before .before .before .before .before .before .before .before .if1 .left) _ (c .before .before .before .before .before .before .before .before .before .before .before .before .descriptor .ensures) _ (c .before .before .before .before .before .before .before .before .before .before .is-live .ensures) _ (c .before .before .before .before .before .before .before .before .before .leads .ensures) _ (c .before .before .before .before .before .before .before .before .lowest .ensures) (c .before .before .before .before .before .before .before .if2 .left) _ (c .before .before .before .before .union-of .ensures) _ (c .before .before .before .member .ensures) (c .before .before .if3 .left) _ (c .set-items .ensures)
 
 pub truncate-call-spec : {M : Type 1} → statement M
 truncate-call-spec =

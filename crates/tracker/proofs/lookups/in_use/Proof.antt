@@ -29,11 +29,11 @@ stands-requires-2 c κs = search needs
 returns-4 : tie.Need-returns-4
 returns-4 c = sym (used-described _ _ (c .before .before .before .before .before .before .if2 .left) (sym (c .before .stands2 .ensures) ∙ c .if4 .taken))
 
-union-all-requires : tie.Need-union-all-requires
-union-all-requires c κs = search needs
+union-of-requires : tie.Need-union-of-requires
+union-of-requires c κs = search needs
 
-union-all-requires-2 : tie.Need-union-all-requires-2
-union-all-requires-2 c κs = search needs
+union-of-requires-2 : tie.Need-union-of-requires-2
+union-of-requires-2 c κs = search needs
 
 member-requires-2 : tie.Need-member-requires-2
 member-requires-2 c κs = search needs
@@ -44,8 +44,8 @@ returns-5 c =
     let no-descriptor : tie.Else4 = c .before .before .before .before .before in
     let no-name : tie.Else3 = no-descriptor .before .before .before in
     c .member2 .ensures
-    ∙ rw (c .before .before .before .union-all .ensures, c .before .union-all2 .ensures, mod-mod)
-    (mapped-has _ _ (c .before .before .before .before .union-all-arg .given .0) (c .before .before .union-all-arg2 .given .0)
+    ∙ rw (c .before .before .before .union-of .ensures, c .before .union-of2 .ensures, mod-mod)
+    (mapped-has _ _ (c .before .before .before .before .union-of-arg .given .0) (c .before .before .union-of-arg2 .given .0)
     ∙ sym (used-other _ _ (no-name .before .before .before .if2 .left)
     (sym (no-name .before .stands .ensures) ∙ no-name .if3 .left)
     (sym (no-descriptor .before .stands2 .ensures) ∙ no-descriptor .if4 .left)))
@@ -61,7 +61,7 @@ in-use-spec =
     returns-3
     stands-requires-2
     returns-4
-    union-all-requires
-    union-all-requires-2
+    union-of-requires
+    union-of-requires-2
     member-requires-2
     returns-5)

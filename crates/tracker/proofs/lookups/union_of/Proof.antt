@@ -1,4 +1,4 @@
--- `union_all` joins the sets in order: before number i it has joined those before it.
+-- `union_of` joins the sets in order: before number i it has joined those before it.
 use Prim.Native.Nat.{_-_, _≤_}
 use mathlib.Core.Path.{_≡_, refl, sym, ap, _∙_}
 use lib.ListN.{length, take}
@@ -7,8 +7,8 @@ use borrow.Author.Needs.{needs}
 use Rattle.sets.specs.Sets.{_∪_}
 use Rattle.tracker.specs.Marks.{unionOf}
 use Rattle.tracker.proofs.LookupLaws.{unionOf-more}
-use Rattle.tracker.proofs.lookups.union_all.Statement.{statement}
-use Rattle.tracker.proofs.lookups.union_all.Tie as tie
+use Rattle.tracker.proofs.lookups.union_of.Statement.{statement}
+use Rattle.tracker.proofs.lookups.union_of.Tie as tie
 
 abbrev Inv-loop : tie.InvT-loop
 Inv-loop rows x₀ i₀ i-end x i = (i ≤ length rows) × (x ≡ unionOf (take i rows))
@@ -39,5 +39,5 @@ loop-again c = (search needs, rw (c .before .before .loop .inv .1) (sym (unionOf
 returns : tie.Need-returns Inv-loop μ-loop
 returns c = c .before .loop .inv .1 ∙ ap unionOf (take-all _ _ (c .loop-test .left))
 
-pub union-all-spec : {M : Type 1} → statement M
-union-all-spec = tie.close (tie.spec Inv-loop μ-loop loop-holds mul-x shared-slice-read-x add-i loop-less loop-again returns)
+pub union-of-spec : {M : Type 1} → statement M
+union-of-spec = tie.close (tie.spec Inv-loop μ-loop loop-holds mul-x shared-slice-read-x add-i loop-less loop-again returns)
