@@ -14,7 +14,6 @@ use crate::cells::set_name;
 use crate::cells::set_row;
 use crate::cells::unfit;
 use crate::lookups::descriptor;
-use crate::lookups::file_set;
 use crate::lookups::in_use;
 use crate::lookups::leads;
 use crate::lookups::name;

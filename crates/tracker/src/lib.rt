@@ -122,19 +122,13 @@ impl Tracker {
                 tracker: self,
             };
         }
-        let sets = self.sets;
-        let fields = self.fields;
-        let after = Tracker {
-            live: live,
-            items: items,
-            feeders: feeders,
-            fed: fed,
-            descriptors: descriptors,
-            names: names,
-            sets: sets,
-            fields: fields,
-            loaded: self.loaded,
-        };
+        let mut after = self;
+        after.live = live;
+        after.items = items;
+        after.feeders = feeders;
+        after.fed = fed;
+        after.descriptors = descriptors;
+        after.names = names;
         Called {
             work: Work::Done,
             tracker: after,

@@ -18,7 +18,7 @@ returns c = record { worked-out = refused-same _ _ _ _ (c .if1 .taken) (c .befor
 
 returns-2 : tie.Need-returns-2
 unfolding view rulesOf
-returns-2 c = record { worked-out = done-same _ _ _ _ (c .before .before .if1 .left) (c .before .before .before .call-in .ensures _); kept = λ n e. cc }
+returns-2 c = record { worked-out = done-same _ _ _ _ (c .if1 .left) (c .before .call-in .ensures _); kept = λ n e. cc }
 
 pub call-spec : {M : Type 1} → statement M
 call-spec = tie.close (tie.spec call-in-requires returns returns-2)
