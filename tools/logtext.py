@@ -6,7 +6,7 @@ Bytes that no form fits are written as a raw line.
 """
 
 import re
-from typing import Callable, Dict, Iterable, List, NamedTuple, Tuple
+from typing import Callable, Dict, Iterable, List, NamedTuple, Optional, Tuple
 
 import modelpath  # noqa: F401  (before the modules of the model)
 import limits
@@ -91,9 +91,7 @@ class Form(NamedTuple):
 # Numbers and sets.
 
 
-def read_number(
-    word: str, text: str, names: Names = NO_NAMES, allowed: range = BYTE
-) -> int:
+def read_number(word: str, text: str, names: Names = NO_NAMES, allowed: range = BYTE) -> int:
     """The number that a text says; the whole word is for the message."""
     if text in names.numbers:
         return names.numbers[text]
@@ -149,7 +147,10 @@ def pair_part(key: str, meaning: str) -> Part:
             raise Unfit(key + text, f"two numbers with a comma between, as in {key}3,4")
         return bytes(read_number(key + text, word) for word in words)
 
-    return Part((key,), f"{key}{meaning},{meaning}", 2, read, lambda data: key + ",".join(map(str, data)))
+    def write(data: bytes) -> str:
+        return key + ",".join(map(str, data))
+
+    return Part((key,), f"{key}{meaning},{meaning}", 2, read, write)
 
 
 def set_part(key: str) -> Part:
@@ -192,7 +193,7 @@ def unused_part() -> Part:
 
     def write(data: bytes) -> str:
         if data[0]:
-            raise NoForm(f"an unused field is {data[0]}")
+            raise NoForm(f"an unused field of {data[0]}")
         return ""
 
     return Part((), "", 1, lambda key, text: bytes(1), write)
@@ -357,20 +358,29 @@ def form_text(record: bytes) -> str:
     words = [form.word]
     position = len(form.lead)
     for part in form.parts:
-        words.append(part.write(frame.value[position : position + part.size]))
+        data = frame.value[position : position + part.size]
+        try:
+            words.append(part.write(data))
+        except NoForm as reason:
+            raise NoForm(f"{form.word} with {reason}") from reason
         position += part.size
     return " ".join(filter(None, words))
 
 
-def record_text(record: bytes, shown: int = len(BYTE) ** 2) -> str:
-    """A record as a line; of a raw value only as many bytes as are to be shown."""
+def raw_text(record: bytes, reason: str, shown: Optional[int]) -> str:
+    """A record as a raw line: tag, length, value, and why it is raw."""
+    tag, length, value = record[:1], record[1:3], record[3:]
+    dots = "..." if shown is not None and len(value) > shown else ""
+    digits = f"{tag.hex()} {length.hex()} {value[:shown].hex()}".rstrip()
+    return f"{RAW} {digits}{dots}  # {reason}"
+
+
+def record_text(record: bytes, shown: Optional[int] = None) -> str:
+    """A record as a line; of a raw value only the first bytes, if a number is given."""
     try:
         return form_text(record)
     except NoForm as reason:
-        tag, length, value = record[:1], record[1:3], record[3:]
-        dots = "..." if len(value) > shown else ""
-        digits = f"{tag.hex()} {length.hex()} {value[:shown].hex()}".rstrip()
-        return f"{RAW} {digits}{dots}  # {reason}"
+        return raw_text(record, str(reason), shown)
 
 
 def disassemble(log: bytes) -> bytes:

@@ -23,7 +23,9 @@ use Rattle.flow.proofs.Use.{used-leads, used-open, used-mapped, used-process}
 use Rattle.tracker.specs.Marks.{fileSet, files, filesIn, released}
 use Rattle.tracker.specs.View.{state, tables}
 use Rattle.tracker.specs.Worked.{call}
-use Rattle.tracker.proofs.Effects.{length-table, isIn-set, isIn-stored, block-in, put-kept, files-has, fileSet-has, fileSet-not, filesIn-in, filesIn-file, some-at, used-kept, none-ended, freed, moved-clear, moved-copy}
+use Rattle.tracker.proofs.LookupLaws.{filesIn-has, filesIn-file}
+use Rattle.tracker.proofs.Spreading.{table-length}
+use Rattle.tracker.proofs.Effects.{isIn-set, isIn-stored, block-in, put-kept, files-has, fileSet-has, fileSet-not, some-at, used-kept, none-ended, freed, moved-clear, moved-copy}
 
 file-leads : (c : ℕ) → isFile c ≡ true → leads c ≡ true
 unfolding leads
@@ -130,7 +132,7 @@ module _ (live : ℕ) (items feeders fed descriptors names : List ℕ) (rules : 
 
     given-long : (l : List ℕ) (r x : ℕ) → length (given l r x) ≡ 64
     unfolding given
-    given-long l r x = length-table 64 _
+    given-long l r x = table-length 64 _
 
     pub read-after : after s (change s (call read p a b c)) ≡ state live (given items (reach s (own p)) (itemsOf s (descriptor s p a))) feeders fed descriptors names rules
     unfolding change tablesBy flowBy moved
@@ -261,7 +263,7 @@ module _ (live : ℕ) (items feeders fed descriptors names : List ℕ) (rules : 
   held-used q v hq hv h =
       or-elim (has (filesIn (block descriptors q)) v) (has ((feedersOf s q ∪ fedBy s q) ∩ files) v)
       (λ e. let f : isFile v ≡ true = filesIn-file (block descriptors q) v e in
-      used-leads s v (file-leads v f) (λ m. or-l _ (mapped s v) (or-r (isIn v names) _ (block-in descriptors q v (sym (filesIn-in (block descriptors q) v f) ∙ e)))))
+      used-leads s v (file-leads v f) (λ m. or-l _ (mapped s v) (or-r (isIn v names) _ (block-in descriptors q v (sym (filesIn-has (block descriptors q) v f) ∙ e)))))
       (λ e. let w : (has (feedersOf s q ∪ fedBy s q) v && has files v) ≡ true = sym (inter-has (feedersOf s q ∪ fedBy s q) files v) ∙ e in
       used-mapped s q v hq (file-leads v (sym (files-has v hv) ∙ and-r (has (feedersOf s q ∪ fedBy s q) v) _ w))
       (sym (union-has (feedersOf s q) (fedBy s q) v) ∙ and-l _ (has files v) w))
@@ -273,7 +275,7 @@ module _ (live : ℕ) (items feeders fed descriptors names : List ℕ) (rules : 
     no-part = sym (union-has (filesIn (block descriptors q)) ((feedersOf s q ∪ fedBy s q) ∩ files) v) ∙ h
 
     no-descriptor : isIn v (block descriptors q) ≡ false
-    no-descriptor = sym (filesIn-in (block descriptors q) v f) ∙ or-false-l _ (has ((feedersOf s q ∪ fedBy s q) ∩ files) v) no-part
+    no-descriptor = sym (filesIn-has (block descriptors q) v f) ∙ or-false-l _ (has ((feedersOf s q ∪ fedBy s q) ∩ files) v) no-part
 
     no-row : (has (feedersOf s q) v || has (fedBy s q) v) ≡ false
     no-row =

@@ -21,22 +21,10 @@ use Rattle.flow.proofs.Bools.{or-elim, or-l, or-r, and-l, and-r, and-i, by, no-
 use Rattle.flow.proofs.TableLaws.{table-at, some-of}
 use Rattle.tracker.specs.Marks.{fileSet, files, filesIn, cleared, released}
 use Rattle.tracker.specs.View.{tables}
+use Rattle.tracker.proofs.LookupLaws.{isIn-cons}
+use Rattle.tracker.proofs.Spreading.{is-table, table-length}
 
 -- ---- lists
-length-tableFrom : {A : Type 0} (n k : ℕ) (f : ℕ → A) → length (tableFrom n k f) ≡ n
-unfolding tableFrom
-length-tableFrom zero k f = refl
-length-tableFrom (suc n) k f = ap suc (length-tableFrom n (suc k) f)
-
-pub length-table : {A : Type 0} (n : ℕ) (f : ℕ → A) → length (table n f) ≡ n
-unfolding table
-length-table n f = length-tableFrom n 0 f
-
--- a list is a table if it has its elements
-pub is-table : (n : ℕ) (f : ℕ → ℕ) (l : List ℕ) → length l ≡ n → ((i : ℕ) → i < n → f i ≡ getD l i 0) → table n f ≡ l
-is-table n f l e h =
-    ext-getD 0 (table n f) l (length-table n f ∙ sym e) (λ i k. let m : i < n = omega (arith, length-table n f) in table-at n f i 0 m ∙ h i m)
-
 -- an element after `set`, as a choice
 pub set-at : (l : List ℕ) (u x i : ℕ) → u < length l → getD (set l u x) i 0 ≡ elim (eqb i u) as (λ z. ℕ) [ true ↦ x | false ↦ getD l i 0 ]
 set-at l u x i h =
@@ -62,14 +50,6 @@ unfolding isIn
 isIn-stored [] i e h = absurd (not-suc-le-zero h)
 isIn-stored (x ∷ l) zero e h = chosen-l (eqb e e) true _ (eq-eqb e e refl)
 isIn-stored (x ∷ l) (suc i) e h = choice (λ b. b ≡ true) (eqb e x) true _ (λ q. refl) (λ q. isIn-stored l i e (omega arith))
-
-isIn-cons : (c x : ℕ) (l : List ℕ) → isIn c (x ∷ l) ≡ (eqb c x || isIn c l)
-unfolding isIn
-isIn-cons c x l = go (eqb c x)
-  where
-    go : (b : Bool) → elim b as (λ z. Bool) [ true ↦ true | false ↦ isIn c l ] ≡ (b || isIn c l)
-    go true = refl
-    go false = refl
 
 or-assoc : (a b c : Bool) → (a || (b || c)) ≡ (a || b || c)
 or-assoc true b c = refl
@@ -137,21 +117,6 @@ fileSet-in e c f =
 pub fileSet-not : (e c : ℕ) → isFile c ≡ true → has (fileSet e) c ≡ false → e ≡ c → ⊥
 fileSet-not e c f h q = no-both (fileSet-in e c f ∙ eq-eqb c e (sym q)) h
 
--- the set of a list's files has those that stand in it, and files alone
-pub filesIn-in : (l : List ℕ) (c : ℕ) → isFile c ≡ true → has (filesIn l) c ≡ isIn c l
-unfolding filesIn isIn
-filesIn-in [] c f = none-has c
-filesIn-in (e ∷ l) c f = union-has (fileSet e) (filesIn l) c ∙ ap₂ _||_ (fileSet-in e c f) (filesIn-in l c f) ∙ sym (isIn-cons c e l)
-
-pub filesIn-file : (l : List ℕ) (c : ℕ) → has (filesIn l) c ≡ true → isFile c ≡ true
-unfolding filesIn
-filesIn-file [] c h = no-both h (none-has c)
-filesIn-file (e ∷ l) c h =
-    or-elim (has (fileSet e) c) (has (filesIn l) c)
-    (λ q. let w = fileSet-has e c q in rw (w .1) at (w .0))
-    (filesIn-file l c)
-    (sym (union-has (fileSet e) (filesIn l) c) ∙ h)
-
 -- some number below n of which f holds
 pub some-at : (n : ℕ) (f : ℕ → Bool) → someBelow n f ≡ true → (i : ℕ) × (i < n) × (f i ≡ true)
 unfolding someBelow
@@ -214,7 +179,7 @@ module _ (s : State) (x : Change) where
   after-when : (l : List ℕ) → length l ≡ 64 → ((c : ℕ) → c < 64 → elim (ended s (x .tables) c) as (λ z. ℕ) [ true ↦ 0 | false ↦ getD (moved s (x .flow)) c 0 ] ≡ getD l c 0)
       → after s x ≡ withItems (x .tables) l
   unfolding after
-  after-when l e h = ap (withItems (x .tables)) (is-table 64 _ l e h)
+  after-when l e h = ap (withItems (x .tables)) (sym (is-table 64 _ l e (λ i k. sym (h i k))))
 
   -- no use ends
   pub none-ended : length (moved s (x .flow)) ≡ 64 → ((c : ℕ) → c < 64 → used s c ≡ true → used (x .tables) c ≡ true)
@@ -231,7 +196,7 @@ module _ (s : State) (x : Change) where
       → after s x ≡ withItems (x .tables) (cleared (moved s (x .flow)) (those (λ c. has lost c && not (used (x .tables) c))))
   unfolding ended cleared
   lost-ended lost f g =
-      after-when (cleared (moved s (x .flow)) gone) (length-table 64 _)
+      after-when (cleared (moved s (x .flow)) gone) (table-length 64 _)
       (λ c l. ap (λ (b : Bool). elim b as (λ z. ℕ) [ true ↦ 0 | false ↦ getD (moved s (x .flow)) c 0 ]) (same c l ∙ sym (those-has _ c l)) ∙ sym (table-at 64 _ c 0 l))
     where
       gone : ℕ
@@ -261,8 +226,8 @@ freed s x t l lost e m f g =
 module _ (s : State) (len : length (s .items) ≡ 64) where
   pub moved-clear : (u : ℕ) → u < 64 → moved s (clear u) ≡ set (s .items) u 0
   unfolding moved itemsOf
-  moved-clear u h = is-table 64 _ (set (s .items) u 0) (length-set (s .items) u 0 ∙ len) (λ i l. sym (set-at (s .items) u 0 i (omega arith)))
+  moved-clear u h = sym (is-table 64 _ (set (s .items) u 0) (length-set (s .items) u 0 ∙ len) (λ i l. set-at (s .items) u 0 i (omega arith)))
 
   pub moved-copy : (u v : ℕ) → v < 64 → moved s (copy u v) ≡ set (s .items) v (itemsOf s u)
   unfolding moved itemsOf
-  moved-copy u v h = is-table 64 _ (set (s .items) v (itemsOf s u)) (length-set (s .items) v _ ∙ len) (λ i l. sym (set-at (s .items) v _ i (omega arith)))
+  moved-copy u v h = sym (is-table 64 _ (set (s .items) v (itemsOf s u)) (length-set (s .items) v _ ∙ len) (λ i l. set-at (s .items) v _ i (omega arith)))
