@@ -1,23 +1,22 @@
 -- A call that is not refused: what it makes of the links and the tables, and that its flow fits.
-use Prim.Native.Nat.{ℕ, zero, suc, _+_, _-_, _*_, _^_, _≤_, _<_}
+use Prim.Native.Nat.{ℕ, _<_}
 use native.Mathlib.Omega.{arith}
-use mathlib.Core.Path.{_≡_, refl, sym, ap, _∙_}
-use mathlib.Core.Logic.{_⊎_, inl, inr, ⊎-elim}
+use mathlib.Core.Path.{_≡_, refl, sym, _∙_}
+use mathlib.Core.Logic.{_⊎_, inl, inr}
 use mathlib.Core.Bool.{Bool, true, false, not, _&&_, _||_}
-use mathlib.Core.List.{List, [], _∷_, _++_}
-use lib.Dec.{ltb, leb, eqb}
-use lib.ListN.{getD, length, take, drop, replicate, set}
-use borrow.Author.Tests.{ltb-true, leb-true, eqb-true, eqb-false, not-true, not-false, lt-ltb}
+use mathlib.Core.List.{List}
+use lib.Dec.{ltb}
+use lib.ListN.{set}
+use borrow.Author.Tests.{ltb-true, eqb-true, not-false}
 use Rattle.sets.specs.Sets.{has, only, without, _∪_}
 use Rattle.sets.proofs.Members.{union-has, only-has, none-has}
-use Rattle.flow.specs.Tables.{someBelow}
-use Rattle.flow.specs.Box.{isDevice, isProcess, isFile, own, leads, closed, slot, State, feedersOf, fedBy, descriptor, name}
+use Rattle.flow.specs.Box.{own, leads, State, feedersOf, fedBy, descriptor}
 use Rattle.flow.specs.Links.{linked, used}
-use Rattle.flow.specs.Calls.{Kind, start, openName, create, pipe, device, dup, close, read, write, truncate, mapRead, mapBoth, unmap, unlink, rename, link, fork, exit, label, kindNumber, Call, Flow, still, clear, withLive, withDescriptors, withNames, withLinks, putBlock, block, isFed, tablesBy, flowBy}
+use Rattle.flow.specs.Calls.{Kind, start, openName, create, pipe, device, dup, close, read, write, truncate, mapRead, mapBoth, unmap, unlink, rename, link, fork, exit, label, kindNumber, Call, Flow, still, clear, withLive, withDescriptors, withNames, withLinks, isFed, tablesBy, flowBy}
 use Rattle.flow.specs.Refusals.{inRange, Ranges, ranges, fieldsFit, isLive, isOpen, isBound, dead, taken, missing}
-use Rattle.flow.proofs.Bools.{or-elim, or-l, or-r, and-l, and-r, and-i, or-false-l, or-false-r, by, no-both}
-use Rattle.flow.proofs.TableLaws.{some-of, none-of}
-use Rattle.flow.proofs.Reach.{process-range, link-cases, link-in, link-out}
+use Rattle.flow.proofs.Bools.{or-elim, and-l, and-r, or-false-r, by, no-both}
+use Rattle.flow.proofs.TableLaws.{none-of}
+use Rattle.flow.proofs.Reach.{link-cases, link-in, link-out}
 use Rattle.flow.proofs.Rows.{leads-lt, leads-not, Row, Rows, row-none, row-add, less-elim, row-less, row-live, row-cases, rows-set, rows-more, more-live, now-live, still-live}
 use Rattle.flow.proofs.Use.{used-process, used-open, feeder-row, fed-row, linked-used}
 use Rattle.flow.proofs.Moves.{Fit, source, source-copy, source-other}

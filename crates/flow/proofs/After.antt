@@ -1,19 +1,19 @@
 -- The state after a change: what its containers hold once what is not in use is emptied.
-use Prim.Native.Nat.{ℕ, _+_, _^_, _≤_, _<_}
+use Prim.Native.Nat.{ℕ, _<_}
 use native.Mathlib.Omega.{arith}
 use mathlib.Core.Path.{_≡_, refl, sym, ap, _∙_}
-use mathlib.Core.Bool.{Bool, true, false, not, _&&_, _||_}
-use mathlib.Core.List.{List, [], _∷_}
+use mathlib.Core.Bool.{Bool, true, false, not, _&&_}
+use mathlib.Core.List.{List}
 use lib.Dec.{eqb}
 use lib.ListN.{getD}
 use borrow.Author.Tests.{eqb-true, eqb-false}
-use Rattle.sets.specs.Sets.{has, only, _∪_}
+use Rattle.sets.specs.Sets.{has}
 use Rattle.sets.proofs.Members.{none-has}
 use Rattle.flow.specs.Box.{State, itemsOf, feedersOf, fedBy}
 use Rattle.flow.specs.Links.{linked, reach, given, mapped, used}
 use Rattle.flow.specs.Calls.{Flow, still, gift, arrival, exchange, copy, clear, Change, withItems, moved, ended, after}
 use Rattle.flow.specs.Rules.{holds}
-use Rattle.flow.proofs.Bools.{and-false-l, by, no-both, choice, chosen-l, chosen-r}
+use Rattle.flow.proofs.Bools.{and-false-l, by, no-both, choice, chosen-r}
 use Rattle.flow.proofs.TableLaws.{table-at}
 use Rattle.flow.proofs.Rows.{Rows}
 use Rattle.flow.proofs.Use.{linked-used, reach-used}

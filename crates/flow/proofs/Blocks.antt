@@ -1,18 +1,17 @@
 -- The descriptors of each process: where a block is put, and that a dead process has none open.
-use Prim.Native.Nat.{ℕ, zero, suc, _+_, _-_, _*_, _≤_, _<_}
+use Prim.Native.Nat.{ℕ, _+_, _-_, _<_}
 use native.Mathlib.Omega.{arith}
 use native.Mathlib.Decide.{ℕ-discrete, decLt}
-use mathlib.Core.Path.{_≡_, refl, sym, ap, _∙_}
-use mathlib.Core.Bool.{Bool, true, false, not, _&&_, _||_}
-use mathlib.Core.List.{List, [], _∷_, _++_}
-use lib.Dec.{ltb}
-use lib.ListN.{getD, length, take, drop, replicate, set, length-append, length-take, length-drop, length-set, length-replicate, getD-replicate, List·getD-append}
+use mathlib.Core.Path.{_≡_, refl, ap, _∙_}
+use mathlib.Core.Bool.{true, false, not}
+use mathlib.Core.List.{List, _++_}
+use lib.ListN.{getD, length, take, drop, replicate, set, length-append, length-drop, length-set, length-replicate, getD-replicate, List·getD-append}
 use lib.Seq.{getD-take, getD-drop, getD-append-add, getD-set-other, length-take-le}
 use borrow.Author.Tests.{ltb-true}
-use Rattle.sets.specs.Sets.{has, only, without, _∪_}
-use Rattle.flow.specs.Box.{closed, slot, descriptorCount, State, descriptor, name}
+use Rattle.sets.specs.Sets.{has, without}
+use Rattle.flow.specs.Box.{closed, slot, descriptorCount, State, descriptor}
 use Rattle.flow.specs.Calls.{Kind, start, openName, create, pipe, device, dup, close, read, write, truncate, mapRead, mapBoth, unmap, unlink, rename, link, fork, exit, label, kindNumber, Call, withLive, withDescriptors, withNames, withLinks, putBlock, block, tablesBy}
-use Rattle.flow.specs.Refusals.{ranges, inRange, isLive, dead, missing}
+use Rattle.flow.specs.Refusals.{ranges, inRange, isLive, dead}
 use Rattle.flow.proofs.Bools.{by, no-both}
 use Rattle.flow.proofs.Rows.{more-live, still-live, now-live}
 use Rattle.flow.proofs.After.{Linking}

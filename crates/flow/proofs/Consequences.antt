@@ -3,17 +3,17 @@ use Prim.Native.Nat.{ℕ, zero, suc, _+_, _≤_, _<_}
 use native.Mathlib.Omega.{arith}
 use native.Mathlib.Nat.{le-refl, not-suc-le-zero, le-of-suc-le-suc}
 use mathlib.Core.Path.{_≡_, refl, sym, ap, _∙_}
-use mathlib.Core.Bool.{Bool, true, false, not, _&&_}
+use mathlib.Core.Bool.{Bool, true, false, _&&_}
 use mathlib.Core.List.{List, [], _∷_, _++_, map, append-nil, append-assoc}
 use mathlib.Core.Option.{Option, none, some}
 use lib.ListN.{getD, length, take, length-append, List·getD-append}
 use lib.Seq.{getD-append-seam}
 use Rattle.flow.specs.Box.{Rule, State}
 use Rattle.flow.specs.Calls.{Kind, start, openName, create, pipe, device, dup, close, read, write, truncate, mapRead, mapBoth, unmap, unlink, rename, link, fork, exit, label, kindNumber, Call, Change, change, after}
-use Rattle.flow.specs.Rules.{holds, Numbered, lowestBroken}
+use Rattle.flow.specs.Rules.{Numbered, lowestBroken}
 use Rattle.flow.specs.Records.{kinds, kindOf, callOf, recordsOf}
 use Rattle.flow.specs.Refusals.{refusal}
-use Rattle.flow.specs.Verdicts.{Outcome, refuses, loads, allows, inhibits, modifies, diversion, mayDivert, breaksNone, stopped, verdictBy, verdict, accepted, outcomeBy, outcome, Answer, refused, rule, allow, inhibit, modify, answerOf, answer, stateAfter, next, answerAll, runLog}
+use Rattle.flow.specs.Verdicts.{Outcome, refuses, loads, allows, inhibits, modifies, diversion, mayDivert, breaksNone, stopped, verdictBy, verdict, accepted, outcomeBy, outcome, refused, rule, allow, inhibit, answerOf, answer, stateAfter, next, answerAll, runLog}
 use Rattle.flow.specs.Contents.{Step, entry, memory, stepState, stateAt}
 use Rattle.flow.specs.Consequences.{KindsNumbered, PassedBreaksNone, VerdictExactly, NoGainAllowed, StoppedKeeps, OneAnswerEach, AnswersInOrder, LogIsSteps}
 use Rattle.flow.proofs.Bools.{choice}

@@ -1,29 +1,29 @@
 -- Exactness: contents as sets of items, a gift as union. The contents then are the items recorded, moment by moment.
-use Prim.Native.Nat.{ℕ, zero, suc, _+_, _<_}
+use Prim.Native.Nat.{ℕ, zero, suc, _<_}
 use native.Mathlib.Omega.{arith}
 use mathlib.Core.Path.{_≡_, refl, sym, ap, ap₂, _∙_}
-use mathlib.Core.Bool.{Bool, true, false, not, _&&_, _||_}
-use mathlib.Core.List.{List, [], _∷_}
+use mathlib.Core.Bool.{Bool, true, false}
+use mathlib.Core.List.{List}
 use mathlib.Core.Option.{Option, none, some}
 use lib.Dec.{ltb, eqb}
 use lib.ListN.{getD}
-use borrow.Author.Tests.{ltb-true, eqb-true, eqb-false, eq-eqb, ne-eqb}
+use borrow.Author.Tests.{ltb-true, eqb-true, eqb-false, ne-eqb}
 use Rattle.sets.specs.Sets.{has, only, _∪_}
 use Rattle.sets.proofs.Members.{none-has, only-has, union-has}
-use Rattle.flow.specs.Box.{State, fresh, itemsOf}
+use Rattle.flow.specs.Box.{State, itemsOf}
 use Rattle.flow.specs.Links.{reach, given}
 use Rattle.flow.specs.Calls.{Call, Flow, still, gift, arrival, exchange, copy, clear, Change, moved, ended, after}
 use Rattle.flow.specs.Records.{callOf}
 use Rattle.flow.specs.Verdicts.{Outcome, refuses, loads, allows, inhibits, modifies, outcome, withRule, stateAfter}
 use Rattle.flow.specs.Queries.{Reply, refuse, result, itemsQuery}
 use Rattle.flow.specs.Contents.{Step, entry, memory, Machine, flowed, changed, contentsAfter, stepContents, stepState, stepAt, stateAt, runAt, labelOf, itemLabelled}
-use Rattle.flow.specs.Exact.{DifferOnlyAt, Influence, Exact}
-use Rattle.flow.proofs.Bools.{or-false-i, and-i, and-l, and-r, by, no-both, choice, choices, chosen-l, chosen-r}
+use Rattle.flow.specs.Exact.{DifferOnlyAt, Exact}
+use Rattle.flow.proofs.Bools.{or-false-i, by, no-both, choice, choices, chosen-r}
 use Rattle.flow.proofs.Moves.{Fit, given-at, source, source-copy, source-other, copy-at, clear-at}
 use Rattle.flow.proofs.After.{after-items}
 use Rattle.flow.proofs.Outcomes.{Made, Sound}
 use Rattle.flow.proofs.Keeping.{Invariant, fresh-empty, sound, state-kept}
-use Rattle.flow.proofs.TwoRuns.{run-tracker, query-answers}
+use Rattle.flow.proofs.TwoRuns.{run-tracker}
 
 -- contents are the items collected
 unfoldable pub collecting : Machine ℕ

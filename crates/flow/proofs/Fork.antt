@@ -1,15 +1,14 @@
 -- A forked child has the parent's items, descriptors and links, in each direction.
-use Prim.Native.Nat.{ℕ, _+_, _-_, _<_}
+use Prim.Native.Nat.{ℕ, _<_}
 use native.Mathlib.Omega.{arith}
 use mathlib.Core.Path.{_≡_, refl, sym, ap, _∙_}
-use mathlib.Core.Bool.{Bool, true, false}
-use mathlib.Core.List.{List}
-use lib.ListN.{getD, set, length}
+use mathlib.Core.Bool.{true}
+use lib.ListN.{length}
 use lib.Seq.{getD-set-same}
 use Rattle.sets.specs.Sets.{has}
 use Rattle.flow.specs.Box.{own, State, itemsOf, feedersOf, fedBy, descriptor}
 use Rattle.flow.specs.Links.{linked, used}
-use Rattle.flow.specs.Calls.{fork, Call, Change, change, withItems, withLive, withDescriptors, withLinks, tablesBy, flowBy, after}
+use Rattle.flow.specs.Calls.{fork, Call, change, withItems, withLive, withDescriptors, withLinks, tablesBy, flowBy, after}
 use Rattle.flow.specs.Contents.{stateAt}
 use Rattle.flow.specs.Consequences.{ForkCopies}
 use Rattle.flow.proofs.Bools.{by, no-both}

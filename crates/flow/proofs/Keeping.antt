@@ -1,23 +1,22 @@
 -- Every step keeps what Kept says.
-use Prim.Native.Nat.{ℕ, zero, suc, _+_, _^_, _≤_, _<_, zero-le}
+use Prim.Native.Nat.{ℕ, zero, suc, _^_, _≤_, _<_, zero-le}
 use native.Mathlib.Omega.{arith}
-use mathlib.Core.Path.{_≡_, refl, sym, ap, _∙_}
-use mathlib.Core.Bool.{Bool, true, false, not, _&&_}
+use mathlib.Core.Path.{_≡_, refl, ap, _∙_}
+use mathlib.Core.Bool.{true, false}
 use mathlib.Core.List.{List, [], _∷_, _++_}
-use mathlib.Core.Option.{Option, none, some}
+use mathlib.Core.Option.{Option, none}
 use lib.ListN.{getD, length, replicate, length-append, length-replicate, getD-replicate}
 use Rattle.sets.specs.Sets.{has}
 use Rattle.sets.proofs.Members.{none-has}
 use Rattle.flow.specs.Box.{isFile, leads, closed, slot, Rule, State, fresh, itemsOf, feedersOf, fedBy, descriptor}
 use Rattle.flow.specs.Links.{linked, mapped, used}
 use Rattle.flow.specs.Calls.{Call, Change, withItems, after}
-use Rattle.flow.specs.Rules.{holds, breaks, broken, Numbered, firstBroken, lowestBroken}
+use Rattle.flow.specs.Rules.{holds, broken, firstBroken, lowestBroken}
 use Rattle.flow.specs.Records.{callOf}
 use Rattle.flow.specs.Verdicts.{Outcome, refuses, loads, allows, inhibits, modifies, outcome, withRule, stateAfter}
 use Rattle.flow.specs.Contents.{Step, entry, memory, stepState, stepAt, stateAt}
 use Rattle.flow.specs.Kept.{wellFormed, allWellFormed, Kept, EveryRecordKeeps}
-use Rattle.flow.proofs.Bools.{and-l, and-r, and-i, by, no-both}
-use Rattle.flow.proofs.TableLaws.{none-of, none-below}
+use Rattle.flow.proofs.Bools.{and-l, and-r, and-i, no-both}
 use Rattle.flow.proofs.Judging.{none-broken, one-more}
 use Rattle.flow.proofs.Reach.{reach-exact}
 use Rattle.flow.proofs.Rows.{Rows, row-none}

@@ -1,16 +1,15 @@
 -- What containers hold after items moved, and that items go along links.
-use Prim.Native.Nat.{ℕ, _+_, _^_, _≤_, _<_}
+use Prim.Native.Nat.{ℕ, _^_, _<_}
 use native.Mathlib.Omega.{arith}
 use mathlib.Core.Path.{_≡_, refl, sym, ap, _∙_}
-use mathlib.Core.Logic.{_⊎_, inl, inr, ⊎-elim}
+use mathlib.Core.Logic.{_⊎_, ⊎-elim}
 use mathlib.Core.Bool.{Bool, true, false, not, _&&_, _||_, or-false, or-comm}
-use mathlib.Core.List.{List, [], _∷_}
+use mathlib.Core.List.{List}
 use lib.Dec.{eqb}
 use lib.ListN.{getD}
-use borrow.Author.Tests.{eqb-true, eqb-false, eq-eqb, ne-eqb}
+use borrow.Author.Tests.{eqb-true, eq-eqb, ne-eqb}
 use Rattle.sets.specs.Sets.{has, only, _∪_}
 use Rattle.sets.proofs.Members.{union-has, only-has, none-has}
-use Rattle.flow.specs.Tables.{table}
 use Rattle.flow.specs.Box.{State, itemsOf, fedBy}
 use Rattle.flow.specs.Links.{linked, reach, given, used}
 use Rattle.flow.specs.Calls.{Flow, still, gift, arrival, exchange, copy, clear, moved}

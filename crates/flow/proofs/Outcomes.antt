@@ -1,30 +1,29 @@
 -- What is known of a record that was not refused.
-use Prim.Native.Nat.{ℕ, zero, suc, _+_, _*_, _<_}
+use Prim.Native.Nat.{ℕ, suc, _<_}
 use native.Mathlib.Omega.{arith}
-use mathlib.Core.Path.{_≡_, refl, sym, ap, _∙_}
-use mathlib.Core.Logic.{_⊎_, inl, inr}
-use mathlib.Core.Bool.{Bool, true, false, not, _&&_, _||_, true≢false}
-use mathlib.Core.List.{List, [], _∷_, _++_}
+use mathlib.Core.Path.{_≡_, refl, ap, _∙_}
+use mathlib.Core.Logic.{inl}
+use mathlib.Core.Bool.{Bool, true, false, not, _&&_}
+use mathlib.Core.List.{List, _∷_}
 use mathlib.Core.Option.{Option, none, some}
 use lib.Dec.{ltb, eqb}
 use lib.ListN.{length}
-use borrow.Author.Tests.{ltb-true, leb-false, not-true, not-false, eqb-true}
-use Rattle.flow.specs.Tables.{Test, _⇒_}
+use borrow.Author.Tests.{ltb-true, leb-false, not-false, eqb-true}
+use Rattle.flow.specs.Tables.{Test}
 use Rattle.flow.specs.Box.{own, leads, Rule, State, descriptor}
 use Rattle.flow.specs.Links.{used}
-use Rattle.flow.specs.Calls.{Kind, start, openName, create, pipe, device, dup, close, read, write, truncate, mapRead, mapBoth, unmap, unlink, rename, link, fork, exit, label, kindNumber, Call, Flow, still, gift, arrival, exchange, copy, clear, withLive, withDescriptors, withNames, withLinks, isFed, tablesBy, flowBy, Change, change, withItems, after}
+use Rattle.flow.specs.Calls.{Kind, start, openName, create, pipe, device, dup, close, read, write, truncate, mapRead, mapBoth, unmap, unlink, rename, link, fork, exit, label, kindNumber, Call, Flow, still, gift, arrival, clear, withLive, withDescriptors, withNames, withLinks, isFed, tablesBy, flowBy, Change, change, withItems, after}
 use Rattle.flow.specs.Rules.{broken, Numbered, lowestBroken}
 use Rattle.flow.specs.Records.{tagOf, callTag, cutShort, wrongLength, callOf, ruleOf}
-use Rattle.flow.specs.Refusals.{inRange, ranges, fieldsFit, isLive, dead, taken, missing, sameDescriptors, noFile, itemsFit, substituteFits, sameItems, callTests, ruleTests, testsByTag, recordTests, refusal}
+use Rattle.flow.specs.Refusals.{inRange, ranges, fieldsFit, itemsFit, substituteFits, sameItems, callTests, ruleTests, testsByTag, recordTests, refusal}
 use Rattle.flow.specs.Verdicts.{Outcome, refuses, loads, allows, inhibits, modifies, diversion, mayDivert, breaksNone, stopped, verdictBy, verdict, accepted, outcomeBy, outcome}
 use Rattle.flow.specs.Contents.{labelOf}
 use Rattle.flow.specs.Kept.{wellFormed, allWellFormed}
 use Rattle.flow.specs.Consequences.{LowestIn, this, past}
-use Rattle.flow.proofs.Bools.{and-l, and-r, and-i, by, no-both, choice, chosen-r}
+use Rattle.flow.proofs.Bools.{and-l, and-r, and-i, no-both, choice, chosen-r}
 use Rattle.flow.proofs.TableLaws.{AllFalse, all-false}
 use Rattle.flow.proofs.Judging.{lowest-in}
 use Rattle.flow.proofs.Rows.{leads-lt}
-use Rattle.flow.proofs.Use.{used-process}
 use Rattle.flow.proofs.Moves.{Fit}
 use Rattle.flow.proofs.After.{Linking}
 use Rattle.flow.proofs.Accepted.{Accepted, fits-process, linking-after, fits-after}

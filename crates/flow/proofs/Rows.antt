@@ -1,19 +1,19 @@
 -- The links of the processes: sixteen sets of containers in each direction. What the table of calls makes of them.
-use Prim.Native.Nat.{ℕ, zero, suc, _+_, _-_, _^_, _≤_, _<_}
+use Prim.Native.Nat.{ℕ, _^_, _≤_, _<_}
 use native.Mathlib.Omega.{arith}
 use native.Mathlib.Decide.{ℕ-discrete, decLt}
 use mathlib.Core.Path.{_≡_, refl, sym, ap, _∙_}
-use mathlib.Core.Bool.{Bool, true, false, not, _&&_, _||_}
-use mathlib.Core.List.{List, [], _∷_}
+use mathlib.Core.Bool.{true, not, _&&_}
+use mathlib.Core.List.{List}
 use lib.Dec.{ltb, leb, eqb}
 use lib.ListN.{getD, length, set, length-set, List·getD-eq-default}
 use lib.Seq.{getD-set-same, getD-set-other}
 use lib.Pow.{pow-pos}
-use borrow.Author.Tests.{ltb-true, leb-true, eqb-true, eqb-false, eq-eqb, ne-eqb}
+use borrow.Author.Tests.{ltb-true, leb-true, eqb-true, eq-eqb, ne-eqb}
 use Rattle.sets.specs.Sets.{has, only, without, _∪_}
 use Rattle.sets.proofs.Members.{union-has, only-has, none-has, union-lt, only-lt, without-has, without-lt, has-lt}
 use Rattle.flow.specs.Box.{isDevice, isFile, leads}
-use Rattle.flow.proofs.Bools.{or-elim, or-l, or-r, and-l, and-r, and-i, by, no-both}
+use Rattle.flow.proofs.Bools.{or-elim, or-l, or-r, and-l, and-r, and-i, no-both}
 
 -- where an entry leads is below 64 and no process
 pub leads-lt : (e : ℕ) → leads e ≡ true → e < 64

@@ -1,33 +1,32 @@
 -- Demand 3, proved over the definitions.
-use Prim.Native.Nat.{ℕ, zero, suc, _+_, _≤_, _<_}
+use Prim.Native.Nat.{ℕ, zero, suc, _≤_, _<_}
 use native.Mathlib.Omega.{arith}
 use native.Mathlib.Decide.{ℕ-discrete}
 use mathlib.Core.Path.{_≡_, refl, sym, ap, ap₂, _∙_}
-use mathlib.Core.Logic.{_⊎_, inl, inr, ⊎-elim}
+use mathlib.Core.Logic.{_⊎_, ⊎-elim}
 use mathlib.Core.Bool.{Bool, true, false, not, _&&_, _||_}
 use mathlib.Core.List.{List, [], _∷_, _++_}
 use mathlib.Core.Option.{Option, none, some}
 use lib.Dec.{ltb, eqb}
-use lib.ListN.{getD, length}
 use borrow.Author.Tests.{eqb-true, eqb-false, eq-eqb, lt-ltb}
 use Rattle.sets.specs.Sets.{has}
 use Rattle.sets.proofs.Members.{none-has}
-use Rattle.flow.specs.Box.{Condition, forbid, separate, confine, Rule, State, fresh, itemsOf}
+use Rattle.flow.specs.Box.{Condition, forbid, separate, confine, Rule, State, itemsOf}
 use Rattle.flow.specs.Links.{linked, reach, used}
 use Rattle.flow.specs.Calls.{Call, Flow, still, gift, arrival, exchange, copy, clear, Change, moved, ended, after}
 use Rattle.flow.specs.Rules.{holds, breaks, broken, firstBroken, lowestBroken, forbids}
 use Rattle.flow.specs.Records.{callOf}
 use Rattle.flow.specs.Verdicts.{Outcome, refuses, loads, allows, inhibits, modifies, outcome, withRule, stateAfter}
 use Rattle.flow.specs.Queries.{result, itemsQuery}
-use Rattle.flow.specs.Contents.{Step, entry, memory, Feeder, Machine, flowed, changed, contentsAfter, linkedTo, stepContents, stepState, stepAt, stateAt, Run, runAt, labelOf, itemLabelled}
+use Rattle.flow.specs.Contents.{Step, entry, memory, Feeder, Machine, flowed, changed, contentsAfter, linkedTo, stepContents, stepState, stepAt, stateAt, runAt, labelOf, itemLabelled}
 use Rattle.flow.specs.TwoRuns.{Clean, Forbidden, first, later, Barred, Agree, Demand3}
-use Rattle.flow.proofs.Bools.{or-r, and-l, and-r, and-i, or-false-l, or-false-r, and-false-l, and-false-r, by, no-both, choices, chosen-l}
+use Rattle.flow.proofs.Bools.{and-l, and-r, or-false-l, or-false-r, and-false-l, and-false-r, by, no-both, choices, chosen-l}
 use Rattle.flow.proofs.TableLaws.{none-of}
 use Rattle.flow.proofs.Judging.{first-whole}
 use Rattle.flow.proofs.Moves.{inList, Fit, source, source-copy, source-other, gift-holds, arrival-holds, exchange-holds, copy-holds, clear-holds}
 use Rattle.flow.proofs.After.{after-in-use, unmoved}
 use Rattle.flow.proofs.Outcomes.{Made, Sound, after-rules}
-use Rattle.flow.proofs.Keeping.{Invariant, sound, step-kept, state-kept}
+use Rattle.flow.proofs.Keeping.{Invariant, sound, state-kept}
 
 -- ---- the tracker of a run doesn't depend on the contents
 pub run-tracker : {W : Type 0} (m : Machine W) (inputs : ℕ → W) (steps : List Step) (k : ℕ) → runAt m inputs steps k .tracker ≡ stateAt steps k

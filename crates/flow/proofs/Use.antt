@@ -1,19 +1,18 @@
 -- What is in use, and that everything linked is.
-use Prim.Native.Nat.{ℕ, _+_, _-_, _≤_, _<_}
+use Prim.Native.Nat.{ℕ, _-_, _≤_, _<_}
 use native.Mathlib.Omega.{arith}
-use mathlib.Core.Path.{_≡_, refl, sym, ap, _∙_}
+use mathlib.Core.Path.{_≡_, ap, _∙_}
 use mathlib.Core.Logic.{_⊎_, inl, inr}
-use mathlib.Core.Bool.{Bool, true, false, not, _&&_, _||_}
-use lib.Dec.{ltb, leb, eqb}
-use lib.ListN.{getD}
-use borrow.Author.Tests.{ltb-true, ltb-false, leb-true, lt-ltb, le-ltb, le-leb, lt-leb, not-false}
+use mathlib.Core.Bool.{Bool, true, false, _&&_, _||_}
+use lib.Dec.{ltb, leb}
+use borrow.Author.Tests.{ltb-false, leb-true, le-ltb}
 use Rattle.sets.specs.Sets.{has}
 use Rattle.flow.specs.Tables.{isIn}
 use Rattle.flow.specs.Box.{isDevice, isProcess, isFile, own, leads, closed, slot, State, feedersOf, fedBy, descriptor}
 use Rattle.flow.specs.Links.{linked, Reaches, here, onward, reach, mapped, used}
-use Rattle.flow.proofs.Bools.{or-elim, or-l, or-r, and-l, and-r, and-i, by, no-both, chosen-l, chosen-r}
+use Rattle.flow.proofs.Bools.{or-elim, or-l, or-r, and-l, by, no-both, chosen-l, chosen-r}
 use Rattle.flow.proofs.TableLaws.{some-of, is-in}
-use Rattle.flow.proofs.Reach.{process-range, is-process, own-process, own-number, link-cases, reach-leads}
+use Rattle.flow.proofs.Reach.{process-range, own-process, own-number, link-cases, reach-leads}
 use Rattle.flow.proofs.Rows.{leads-lt, leads-not, Row, Rows}
 
 module _ (s : State) where

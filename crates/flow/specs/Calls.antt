@@ -1,13 +1,13 @@
 -- Document 01, The records: the nineteen calls. A call changes the tables (live processes, links, descriptors, names) and moves items.
-use Prim.Native.Nat.{ℕ, zero, suc, _+_, _-_, _*_}
-use mathlib.Core.Bool.{Bool, true, false, not, _&&_, _||_}
-use mathlib.Core.List.{List, [], _∷_, _++_}
+use Prim.Native.Nat.{ℕ}
+use mathlib.Core.Bool.{Bool, true, false, not, _&&_}
+use mathlib.Core.List.{List, _++_}
 use lib.Dec.{eqb}
 use lib.ListN.{getD, take, drop, replicate, set}
 use Rattle.sets.specs.Sets.{has, only, without, _∪_}
 use Rattle.flow.specs.Tables.{table, someBelow}
 use Rattle.flow.specs.Box.{containerCount, processCount, descriptorCount, own, slot, closed, State, itemsOf, feedersOf, fedBy, descriptor, name}
-use Rattle.flow.specs.Links.{linked, reach, given, used}
+use Rattle.flow.specs.Links.{reach, given, used}
 
 pub data Kind : Type 0 where
   start : Kind

@@ -1,13 +1,13 @@
 -- Document 01, The box: links, reach, gifts and use.
-use Prim.Native.Nat.{ℕ, zero, suc, _+_, _-_}
+use Prim.Native.Nat.{ℕ, zero, suc, _-_}
 use mathlib.Core.Path.{_≡_}
 use mathlib.Core.Bool.{Bool, true, false, not, _&&_, _||_}
 use mathlib.Core.List.{List}
-use lib.Dec.{ltb, leb, eqb}
+use lib.Dec.{eqb}
 use lib.ListN.{getD}
 use Rattle.sets.specs.Sets.{has, only, _∪_, _∩_}
 use Rattle.flow.specs.Tables.{table, someBelow, isIn}
-use Rattle.flow.specs.Box.{containerCount, firstProcess, processCount, isDevice, isProcess, own, State, itemsOf, feedersOf, fedBy}
+use Rattle.flow.specs.Box.{containerCount, firstProcess, processCount, isDevice, isProcess, own, State, feedersOf, fedBy}
 
 -- a link from u to v: v is fed whenever u is. Links join a process and a container that it maps
 unfoldable pub linked : State → ℕ → ℕ → Bool

@@ -7,8 +7,8 @@ use lib.Dec.{ltb, leb, eqb}
 use lib.ListN.{length}
 use Rattle.sets.specs.Sets.{has}
 use Rattle.flow.specs.Tables.{Test, _⇒_, firstThat}
-use Rattle.flow.specs.Box.{containerCount, deviceCount, processCount, itemCount, nameCount, descriptorCount, ruleCount, isDevice, isFile, own, leads, Condition, forbid, separate, confine, Rule, State, feedersOf, fedBy, descriptor, name}
-use Rattle.flow.specs.Links.{linked, used}
+use Rattle.flow.specs.Box.{containerCount, deviceCount, processCount, itemCount, nameCount, descriptorCount, ruleCount, isDevice, isFile, leads, Condition, forbid, separate, confine, Rule, State, feedersOf, fedBy, descriptor, name}
+use Rattle.flow.specs.Links.{used}
 use Rattle.flow.specs.Calls.{Kind, start, openName, create, pipe, device, dup, close, read, write, truncate, mapRead, mapBoth, unmap, unlink, rename, link, fork, exit, label, kindNumber, Call}
 use Rattle.flow.specs.Rules.{broken}
 use Rattle.flow.specs.Records.{tagOf, callTag, cutShort, knownTag, wrongLength, callOf, ruleOf}

@@ -10,7 +10,7 @@ use Rattle.sets.specs.Sets.{has}
 use Rattle.flow.specs.Box.{containerCount, itemCount, Rule, State}
 use Rattle.flow.specs.Rules.{forbids}
 use Rattle.flow.specs.Queries.{result, itemsQuery}
-use Rattle.flow.specs.Contents.{Step, Machine, Run, runAt, stepAt, itemLabelled}
+use Rattle.flow.specs.Contents.{Step, Machine, runAt, stepAt, itemLabelled}
 
 -- the items query answers none of the chosen items for container c
 unfoldable pub Clean : (ℕ → Bool) → State → ℕ → Type 0

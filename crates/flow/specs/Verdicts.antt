@@ -1,5 +1,5 @@
 -- Document 01, What a record gets: verdicts, the answer to a record, the state after it, and a whole log.
-use Prim.Native.Nat.{ℕ, zero, suc}
+use Prim.Native.Nat.{ℕ}
 use mathlib.Core.Bool.{Bool, true, false, not, _&&_}
 use mathlib.Core.List.{List, [], _∷_, _++_}
 use mathlib.Core.Option.{Option, none, some}
@@ -7,7 +7,7 @@ use lib.Dec.{eqb}
 use lib.ListN.{length}
 use Rattle.flow.specs.Box.{own, Rule, State}
 use Rattle.flow.specs.Links.{used}
-use Rattle.flow.specs.Calls.{kindNumber, Call, Flow, gift, Change, change, after}
+use Rattle.flow.specs.Calls.{kindNumber, Call, gift, Change, change, after}
 use Rattle.flow.specs.Rules.{Numbered, lowestBroken}
 use Rattle.flow.specs.Records.{callOf, ruleOf, recordsOf}
 use Rattle.flow.specs.Refusals.{refusal}

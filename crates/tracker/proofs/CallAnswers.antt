@@ -1,26 +1,26 @@
 -- Each call, as the code tests and stores: refused with the number that it computes, or worked out.
-use Prim.Native.Nat.{ℕ, zero, suc, _+_, _-_, _*_, _%_, _<_}
+use Prim.Native.Nat.{ℕ, _+_, _%_, _<_}
 use native.Mathlib.Omega.{arith}
 use native.Mathlib.Nat.{mod-eq-of-lt}
 use mathlib.Core.Path.{_≡_, refl, sym, ap, _∙_}
 use mathlib.Core.Bool.{Bool, true, false, not, _&&_, _||_}
-use mathlib.Core.List.{List, [], _∷_}
+use mathlib.Core.List.{List}
 use mathlib.Core.Option.{some}
 use lib.Dec.{ltb, leb, eqb}
 use lib.Bits.{bitOr, bitAnd, or-zero-l}
 use lib.ListN.{getD, length, set, replicate}
-use borrow.Author.Tests.{ltb-true, eqb-true, not-false}
+use borrow.Author.Tests.{ltb-true, not-false}
 use Rattle.sets.specs.Sets.{has, only, without, _∪_, _∩_}
 use Rattle.flow.specs.Box.{isDevice, isFile, own, leads, closed, slot, descriptorCount, Rule, State, itemsOf, feedersOf, fedBy, descriptor, name}
 use Rattle.flow.specs.Links.{reach, given, mapped, used}
-use Rattle.flow.specs.Calls.{Kind, start, openName, create, pipe, device, dup, close, read, write, truncate, mapRead, mapBoth, unmap, unlink, rename, link, fork, exit, label, kindNumber, putBlock, block, isFed}
+use Rattle.flow.specs.Calls.{start, openName, create, pipe, device, dup, close, read, write, truncate, mapRead, mapBoth, unmap, unlink, rename, link, fork, exit, label, kindNumber, putBlock, block, isFed}
 use Rattle.flow.specs.Refusals.{fieldsFit, ranges, inRange, isLive, isOpen, isBound, dead, taken, missing, sameDescriptors, noFile}
 use Rattle.flow.proofs.Bools.{and-l, and-r, or-false-l, or-false-r}
 use Rattle.flow.proofs.Rows.{leads-lt}
 use Rattle.tracker.specs.Marks.{fileSet, filesIn, unionOf, files, released}
 use Rattle.tracker.specs.View.{state, tables, links}
-use Rattle.tracker.specs.Worked.{Worked, worked, call, done, lowestOf}
-use Rattle.tracker.proofs.Tests.{five, refused, accepted}
+use Rattle.tracker.specs.Worked.{worked, call, done, lowestOf}
+use Rattle.tracker.proofs.Tests.{refused, accepted}
 use Rattle.tracker.proofs.CallEffects.{start-after, openName-after, create-after, pipe-after, device-after, dup-after, close-after, read-after, write-after, truncate-fed, truncate-free, mapRead-after, mapBoth-after, unmap-after, unlink-after, rename-after, link-after, fork-after, exit-after, label-after}
 use Rattle.tracker.proofs.Spreading.{reach-same}
 use Rattle.tracker.proofs.LookupLaws.{unionOf-has}

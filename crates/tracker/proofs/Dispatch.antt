@@ -3,12 +3,12 @@ use Prim.Native.Nat.{ℕ, _+_, _≤_}
 use native.Mathlib.Omega.{arith}
 use native.Mathlib.Decide.{ℕ-discrete}
 use mathlib.Core.Path.{_≡_, refl, sym, ap, _∙_}
-use mathlib.Core.List.{List, [], _∷_}
-use mathlib.Core.Option.{Option, none, some}
-use lib.ListN.{getD, length, List·getD-eq-default}
+use mathlib.Core.List.{[], _∷_}
+use mathlib.Core.Option.{none, some}
+use lib.ListN.{length, List·getD-eq-default}
 use Rattle.flow.specs.Tables.{firstThat}
-use Rattle.flow.specs.Box.{Rule, State}
-use Rattle.flow.specs.Calls.{Kind, start, openName, create, pipe, device, dup, close, read, write, truncate, mapRead, mapBoth, unmap, unlink, rename, link, fork, exit, label, Call}
+use Rattle.flow.specs.Box.{State}
+use Rattle.flow.specs.Calls.{start, openName, create, pipe, device, dup, close, read, write, truncate, mapRead, mapBoth, unmap, unlink, rename, link, fork, exit, label, Call}
 use Rattle.flow.specs.Records.{byteAt, kinds, kindOf, callIn}
 use Rattle.flow.specs.Refusals.{callTests}
 use Rattle.tracker.specs.Worked.{Worked, stateBy, worked, callFrom, call, done}

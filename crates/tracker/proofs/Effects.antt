@@ -1,25 +1,23 @@
 -- The state after each call, part by part: what the code stores is what document 01's table of calls says.
-use Prim.Native.Nat.{ℕ, zero, suc, _+_, _-_, _*_, _≤_, _<_}
+use Prim.Native.Nat.{ℕ, zero, suc, _+_, _-_, _≤_, _<_}
 use native.Mathlib.Omega.{arith}
 use native.Mathlib.Nat.{not-suc-le-zero}
-use native.Mathlib.Decide.{ℕ-discrete}
-use mathlib.Core.Path.{_≡_, refl, sym, ap, ap₂, _∙_}
-use mathlib.Core.Logic.{_⊎_, inl, inr, ⊎-elim}
+use mathlib.Core.Path.{_≡_, refl, sym, ap, _∙_}
 use mathlib.Core.Bool.{Bool, true, false, not, _&&_, _||_}
 use mathlib.Core.List.{List, [], _∷_, _++_}
 use lib.Dec.{ltb, leb, eqb}
-use lib.ListN.{getD, length, set, take, drop, replicate, length-set, take-append-drop}
-use lib.Seq.{ext-getD, getD-set-same, getD-set-other, take-add}
-use borrow.Author.Tests.{ltb-true, ltb-false, leb-true, eqb-true, eqb-false, eq-eqb, ne-eqb, lt-ltb, le-leb, le-ltb, leb-false}
-use Rattle.sets.specs.Sets.{bit, has, only, thoseFrom, those, without, _∪_}
-use Rattle.sets.proofs.Members.{those-has, union-has, only-has, none-has, without-has, eqb-sym}
-use Rattle.flow.specs.Tables.{tableFrom, table, someBelow, isIn}
-use Rattle.flow.specs.Box.{isDevice, isProcess, isFile, own, leads, closed, slot, descriptorCount, Rule, State, itemsOf, feedersOf, fedBy, descriptor, name}
-use Rattle.flow.specs.Links.{reach, given, mapped, used}
-use Rattle.flow.specs.Calls.{Flow, still, gift, arrival, exchange, copy, clear, Change, withItems, putBlock, block, moved, ended, after}
-use Rattle.flow.proofs.Bools.{or-elim, or-l, or-r, and-l, and-r, and-i, by, no-both, choice, choices, chosen-l, chosen-r}
-use Rattle.flow.proofs.TableLaws.{table-at, some-of}
-use Rattle.tracker.specs.Marks.{fileSet, files, filesIn, cleared, released}
+use lib.ListN.{getD, length, set, take, drop, length-set, take-append-drop}
+use lib.Seq.{getD-set-same, getD-set-other, take-add}
+use borrow.Author.Tests.{ltb-false, eqb-true, eqb-false, eq-eqb, ne-eqb, lt-ltb, le-leb, leb-false}
+use Rattle.sets.specs.Sets.{bit, has, only, thoseFrom, those}
+use Rattle.sets.proofs.Members.{those-has, only-has, none-has, eqb-sym}
+use Rattle.flow.specs.Tables.{table, someBelow, isIn}
+use Rattle.flow.specs.Box.{isDevice, isProcess, isFile, closed, slot, descriptorCount, State, itemsOf, feedersOf, fedBy}
+use Rattle.flow.specs.Links.{mapped, used}
+use Rattle.flow.specs.Calls.{still, copy, clear, Change, withItems, putBlock, block, moved, ended, after}
+use Rattle.flow.proofs.Bools.{or-elim, or-l, or-r, and-i, by, no-both, choice, chosen-l, chosen-r}
+use Rattle.flow.proofs.TableLaws.{table-at}
+use Rattle.tracker.specs.Marks.{fileSet, files, cleared, released}
 use Rattle.tracker.specs.View.{tables}
 use Rattle.tracker.proofs.LookupLaws.{isIn-cons}
 use Rattle.tracker.proofs.Spreading.{is-table, table-length}

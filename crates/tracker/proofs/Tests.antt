@@ -1,12 +1,12 @@
 -- A call's tests: refused with the lowest number that applies, or worked out.
-use Prim.Native.Nat.{ℕ, zero, suc, _+_, _%_, _<_}
+use Prim.Native.Nat.{ℕ, zero, suc}
 use native.Mathlib.Omega.{arith}
 use mathlib.Core.Path.{_≡_, refl, sym, ap, _∙_}
-use mathlib.Core.Bool.{Bool, true, false, not, _&&_}
-use mathlib.Core.List.{List, [], _∷_}
+use mathlib.Core.Bool.{Bool, true, false, not}
+use mathlib.Core.List.{[], _∷_}
 use mathlib.Core.Option.{Option, none, some}
-use Rattle.flow.specs.Tables.{Test, _⇒_, firstThat}
-use Rattle.flow.specs.Box.{Rule, State}
+use Rattle.flow.specs.Tables.{_⇒_, firstThat}
+use Rattle.flow.specs.Box.{State}
 use Rattle.flow.specs.Calls.{Call, change, after}
 use Rattle.flow.specs.Refusals.{ranges, fieldsFit, dead, taken, missing, sameDescriptors, noFile, callTests}
 use Rattle.tracker.specs.Worked.{Worked, stateBy, worked, done, lowestOf}

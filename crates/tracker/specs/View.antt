@@ -5,7 +5,7 @@ use mathlib.Core.List.{List, []}
 use lib.Dec.{eqb}
 use lib.ListN.{getD}
 use Rattle.flow.specs.Tables.{table}
-use Rattle.flow.specs.Box.{Condition, forbid, separate, confine, Rule, State}
+use Rattle.flow.specs.Box.{forbid, separate, confine, Rule, State}
 use Rattle.tracker.specs.declared.Tracker.{Tracker}
 
 -- a state from its parts

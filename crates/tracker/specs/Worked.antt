@@ -1,5 +1,5 @@
 -- What a call gets from the tracker: a refusal, or the state after its change. No rule is judged here.
-use Prim.Native.Nat.{ℕ, zero, suc}
+use Prim.Native.Nat.{ℕ}
 use mathlib.Core.Path.{_≡_}
 use mathlib.Core.Bool.{Bool, true, false}
 use mathlib.Core.List.{List, [], _∷_}
