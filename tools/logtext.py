@@ -183,7 +183,7 @@ def action_part() -> Part:
             return divert + CONTAINER_NAMES.word(substitute)
         if action == limits.INHIBIT_ACTION and substitute == 0:
             return inhibit
-        raise NoForm(f"action {action} with substitute {substitute}")
+        raise NoForm(f"action {action}, substitute {substitute}")
 
     return Part((inhibit, divert), f"({inhibit} | {divert}CONTAINER)", 2, read, write)
 

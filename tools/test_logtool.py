@@ -1,0 +1,598 @@
+#!/usr/bin/env python3
+"""Tests of logtool and of the logs: python3 tools/test_logtool.py [--seed N]."""
+
+import argparse
+import glob
+import io
+import os
+import pty
+import subprocess
+import sys
+import tempfile
+from importlib.machinery import SourceFileLoader
+from importlib.util import module_from_spec, spec_from_loader
+from types import ModuleType
+from typing import Dict, Iterable, List, NamedTuple, Tuple
+from unittest import mock
+from xml.etree import ElementTree
+
+import modelpath
+import limits
+import logtext
+import picture
+from checks import Checks, Options
+from choices import Choices
+from faults import EDGES
+from generate import MIXES, generate_records
+from records import Call, combination, deny, encode, frame_bytes
+from test_runs import RUN_B_INPUT, RUN_B_OUTPUT
+from tracker import State, Tracker
+
+DEFAULT_SEED = 20260
+LOGTOOL = [sys.executable, os.path.join(modelpath.ROOT, "tools", "logtool")]
+LOGS = sorted(glob.glob(os.path.join(modelpath.ROOT, "logs", "*.log.txt")))
+SVG = "{http://www.w3.org/2000/svg}"
+
+# A text and its bytes in hex, which go both ways.
+FORM_PAIRS = [
+    ("start 0", "10 0005 01 00 00 00 00"),
+    ("start 16", "10 0005 01 10 00 00 00"),
+    ("open 0 name=5 descriptor=1", "10 0005 02 00 05 01 00"),
+    ("create 0 name=5 descriptor=0 container=24", "10 0005 03 00 05 00 18"),
+    ("create 15 name=255 descriptor=255 container=255", "10 0005 03 0f ff ff ff"),
+    ("pipe 0 descriptors=3,4 container=25", "10 0005 04 00 03 04 19"),
+    ("device 0 descriptor=1 device=panel", "10 0005 05 00 01 01 00"),
+    ("device 0 descriptor=1 device=8", "10 0005 05 00 01 08 00"),
+    ("dup 0 from=0 to=3", "10 0005 06 00 00 03 00"),
+    ("close 0 descriptor=1", "10 0005 07 00 01 00 00"),
+    ("read 0 descriptor=1", "10 0005 08 00 01 00 00"),
+    ("write 0 descriptor=1", "10 0005 09 00 01 00 00"),
+    ("truncate 0 descriptor=1", "10 0005 0a 00 01 00 00"),
+    ("map-read 0 descriptor=1", "10 0005 0b 00 01 00 00"),
+    ("map-both 0 descriptor=1", "10 0005 0c 00 01 00 00"),
+    ("unmap 0 container=24", "10 0005 0d 00 18 00 00"),
+    ("unlink 0 name=5", "10 0005 0e 00 05 00 00"),
+    ("rename 0 from=5 to=6", "10 0005 0f 00 05 06 00"),
+    ("link 0 from=5 to=6", "10 0005 10 00 05 06 00"),
+    ("fork 0 child=1", "10 0005 11 00 01 00 00"),
+    ("exit 0", "10 0005 12 00 00 00 00"),
+    ("label container=24 item=1", "10 0005 13 00 18 01 00"),
+    ("label container=process0 item=1", "10 0005 13 00 08 01 00"),
+    ("forbid item=1 in=panel,port,24-30 inhibit", "11 000b 01 000000007f00000a 00 00"),
+    ("forbid item=1 in=radio,port,24-26 inhibit", "11 000b 01 000000000700000c 00 00"),
+    ("forbid item=1 in=panel divert=port", "11 000b 01 0000000000000002 01 03"),
+    ("forbid item=255 in=none divert=255", "11 000b ff 0000000000000000 01 ff"),
+    ("separate items=1,2 inhibit", "12 0004 01 02 00 00"),
+    ("separate items=1,1 divert=process15", "12 0004 01 01 01 17"),
+    ("confine item=1 to=process0,24 inhibit", "13 000b 01 0000000001000100 00 00"),
+    ("confine item=1 to=0-63 divert=24", "13 000b 01 ffffffffffffffff 01 18"),
+    ("raw 10  # cut short", "10"),
+    ("raw 10 00  # cut short", "10 00"),
+    ("raw 10 0005 0100  # cut short", "10 0005 0100"),
+    ("raw 14 0000  # unknown tag 14 hex", "14 0000"),
+    ("raw 10 0000  # length 0, not 5", "10 0000"),
+    ("raw 11 000a 00000000000000000000  # length 10, not 11", "11 000a 00000000000000000000"),
+    ("raw 10 0005 1400000000  # unknown kind 20", "10 0005 14 00 00 00 00"),
+    ("raw 10 0005 0100000001  # start with an unused field of 1", "10 0005 01 00 00 00 01"),
+    ("raw 10 0005 1301180100  # label with an unused field of 1", "10 0005 13 01 18 01 00"),
+    ("raw 12 0004 01020003  # separate with action 0, substitute 3", "12 0004 01 02 00 03"),
+    ("raw 12 0004 01020200  # separate with action 2, substitute 0", "12 0004 01 02 02 00"),
+]
+
+# Other ways to say the same bytes.
+OTHER_TEXTS = [
+    ("", ""),
+    ("# only a comment\n\n   \n", ""),
+    ("\ufeffexit 0", "10 0005 12 00 00 00 00"),
+    ("\texit   0\r\n", "10 0005 12 00 00 00 00"),
+    ("open descriptor=1 name=5 0 # any order", "10 0005 02 00 05 01 00"),
+    ("device 0 descriptor=1 device=1", "10 0005 05 00 01 01 00"),
+    ("label container=radio item=1", "10 0005 13 00 02 01 00"),
+    ("forbid inhibit in=30,24-29,1,3,process0,1 item=1", "11 000b 01 000000007f00010a 00 00"),
+    ("raw 10 00 05\nraw 01", "10 0005 01"),
+    ("raw 10000501 0000 00 00", "10 0005 01 00 00 00 00"),
+    ("raw aB\nexit 0\nraw Ff", "ab 10 0005 12 00 00 00 00 ff"),
+]
+
+# A text and what its message must say.
+BAD_TEXTS = [
+    ("start 0\nopne 0", ["line 2", "'opne'", "open, create"]),
+    ("Start 0", ["line 1", "'Start'", "start, open"]),
+    ("open 0 name=5", ["'open 0 name=5'", "descriptor=DESCRIPTOR too"]),
+    ("start", ["'start'", "PROCESS too: start PROCESS"]),
+    ("separate items=1,2", ["(inhibit | divert=CONTAINER) too"]),
+    ("separate items=1,2 inhibit divert=3", ["'divert=3'", "only: separate"]),
+    ("exit 0 1", ["'1'", "only: exit PROCESS"]),
+    ("open 0 name=5 name=6 descriptor=1", ["'name=6'", "only: open PROCESS"]),
+    ("open 0 nam=5 descriptor=1", ["'nam=5'", "only: open PROCESS name=NAME"]),
+    ("start 256", ["'256'", "from 0 to 255"]),
+    ("start -1", ["'-1'", "from 0 to 255"]),
+    ("start " + "9" * 5000, ["999...'", "from 0 to 255"]),
+    ("start \u0661", ["from 0 to 255"]),
+    ("open 0 name=x descriptor=1", ["'name=x'", "from 0 to 255"]),
+    ("open 0 name= descriptor=1", ["'name='", "from 0 to 255"]),
+    ("device 0 descriptor=1 device=process0", ["'device=process0'", "panel, radio or port"]),
+    ("label container=process16 item=1", ["'container=process16'", "process0 to process15"]),
+    ("pipe 0 descriptors=3 container=24", ["'descriptors=3'", "two numbers"]),
+    ("pipe 0 descriptors=3,4,5 container=24", ["'descriptors=3,4,5'", "two numbers"]),
+    ("forbid item=1 in=64 inhibit", ["'in=64'", "from 0 to 63"]),
+    ("forbid item=1 in= inhibit", ["'in='", "from 0 to 63"]),
+    ("forbid item=1 in=30-24 inhibit", ["'in=30-24'", "24-30"]),
+    ("forbid item=1 in=1,none inhibit", ["'in=1,none'", "from 0 to 63"]),
+    ("raw", ["'raw'", "hex bytes after it"]),
+    ("raw 1", ["'1'", "hex digits, two a byte"]),
+    ("\n\nraw 10 0g", ["line 3", "'0g'", "hex digits, two a byte"]),
+]
+
+
+# Text and bytes.
+
+
+def test_forms_go_both_ways(checks: Checks, options: Options) -> None:
+    for text, digits in FORM_PAIRS:
+        data = bytes.fromhex(digits)
+        checks.equal(f"assemble {text!r}", logtext.assemble(text.encode()), data)
+        checks.equal(f"disassemble {digits}", logtext.disassemble(data).decode(), text + "\n")
+
+
+def test_every_form_is_tried(checks: Checks, options: Options) -> None:
+    tried = {text.split()[0] for text, _ in FORM_PAIRS}
+    checks.equal("words", tried - {logtext.RAW}, set(logtext.FORM_OF_WORD))
+    kinds = {form.lead[0] for form in logtext.FORMS if form.tag == limits.CALL_TAG}
+    checks.equal("kinds", kinds, set(limits.KINDS))
+    for form in logtext.FORMS:
+        checks.equal(f"length of {form.word}", form.length, limits.VALUE_LENGTHS[form.tag])
+
+
+def test_other_texts(checks: Checks, options: Options) -> None:
+    for text, digits in OTHER_TEXTS:
+        checks.equal(f"assemble {text!r}", logtext.assemble(text.encode()), bytes.fromhex(digits))
+
+
+def message_of(text: bytes) -> str:
+    """The message about a text that cannot be assembled."""
+    try:
+        return f"no message, but {logtext.assemble(text)!r}"
+    except logtext.BadLine as error:
+        return str(error)
+
+
+def test_messages(checks: Checks, options: Options) -> None:
+    for text, parts in BAD_TEXTS:
+        message = message_of(text.encode())
+        wanted = ["line ", "found ", "expected ", *parts]
+        fits = len(message) < 300 and all(part in message for part in wanted)
+        checks.true(f"message for {text[:50]!r}", fits, message)
+    message = message_of(b"start 0\nstart \xff # not UTF-8")
+    checks.equal("message", message, "line 2: found byte ff hex, expected text in UTF-8")
+
+
+# The round trip.
+
+
+def round_trip_fault(log: bytes) -> bool:
+    """Whether bytes, text, bytes and text again do not agree."""
+    text = logtext.disassemble(log)
+    again = logtext.assemble(text)
+    return again != log or logtext.disassemble(again) != text
+
+
+def check_round_trips(checks: Checks, name: str, logs: Iterable[bytes]) -> None:
+    """Check that every log comes back the same."""
+    faults = [log.hex() for log in logs if round_trip_fault(log)]
+    checks.true(name, not faults, f"{len(faults)} faults, the first {faults[:1]}")
+
+
+def near_record(choices: Choices) -> bytes:
+    """A record with a tag, length and values near the right ones."""
+    tag = choices.pick([*limits.VALUE_LENGTHS] * 4 + [*range(0x0E, 0x1D)])
+    length = limits.VALUE_LENGTHS.get(tag, 5)
+    values = [0, 0, 0, 1, choices.below(24), choices.below(256)]
+    data = frame_bytes(tag, bytes(choices.pick(values) for _ in range(length)))
+    if choices.chance(0.1):
+        data = data[:2] + bytes([choices.below(14)]) + data[3:]
+    return data
+
+
+def test_random_bytes(checks: Checks, options: Options) -> None:
+    for case in range(options.cases):
+        seed = options.seed + case
+        choices = Choices(seed)
+        logs = [choices.data(choices.below(60)) for _ in range(100)]
+        for _ in range(100):
+            logs.append(b"".join(near_record(choices) for _ in range(choices.below(9))))
+        logs.append(choices.data(3000))
+        check_round_trips(checks, f"random bytes, seed {seed}", logs)
+
+
+def test_generated_logs(checks: Checks, options: Options) -> None:
+    for mix in MIXES:
+        for seed in range(options.seed, options.seed + 5):
+            log = b"".join(generate_records(seed, 150, mix))
+            check_round_trips(checks, f"log of seed {seed}, mix {mix}", [log])
+            records = logtext.split_records(log)
+            checks.equal("records joined", b"".join(records), log)
+            checks.equal("a record an answer", len(records), len(Tracker().run_log(log)))
+
+
+def test_single_bytes_changed(checks: Checks, options: Options) -> None:
+    values = {*EDGES, *range(32)}
+    for text, digits in FORM_PAIRS:
+        data = bytes.fromhex(digits)
+        changed = (
+            data[:place] + bytes([value]) + data[place + 1 :]
+            for place in range(len(data))
+            for value in values
+        )
+        check_round_trips(checks, f"one byte changed in {text!r}", changed)
+    check_round_trips(checks, "run B cut", (RUN_B_INPUT[:end] for end in range(len(RUN_B_INPUT))))
+    check_round_trips(checks, "longest value", [frame_bytes(0xFF, bytes(65535)) + b"\x10"])
+
+
+def random_line(choices: Choices) -> str:
+    """A line of words that partly belong together."""
+    text, _ = choices.pick(FORM_PAIRS)
+    words = text.split("#")[0].split()
+    while choices.chance(0.5):
+        place = choices.below(len(words) + 1)
+        other = choices.pick(choices.pick(FORM_PAIRS)[0].split())
+        odd = choices.pick(["=", "-", ",", "0-", "in=-", "\u00b2", "\x00", "#", "none", "0x1"])
+        words[place : place + choices.below(2)] = [choices.pick([other, odd])]
+    return " ".join(words)
+
+
+def test_random_texts(checks: Checks, options: Options) -> None:
+    choices = Choices(options.seed)
+    logs = []
+    for _ in range(3000):
+        text = random_line(choices).encode()
+        try:
+            logs.append(logtext.assemble(text))
+        except logtext.BadLine:
+            pass
+    checks.true("some texts are good, some bad", 500 < len(logs) < 2500, str(len(logs)))
+    check_round_trips(checks, f"random texts, seed {options.seed}", logs)
+
+
+# The command line.
+
+
+def load_logtool() -> ModuleType:
+    """The command line as a module, to run it many times in this process."""
+    loader = SourceFileLoader("logtool", LOGTOOL[1])
+    module = module_from_spec(spec_from_loader("logtool", loader))
+    loader.exec_module(module)
+    return module
+
+
+class Result(NamedTuple):
+    """What a command leaves."""
+
+    status: int
+    output: bytes
+    message: str
+
+
+def command(words: List[str], data: bytes = b"") -> Result:
+    """Run logtool in this process with standard input."""
+    given, output, errors = io.TextIOWrapper(io.BytesIO(data)), io.BytesIO(), io.StringIO()
+    stdout = io.TextIOWrapper(output, encoding="utf-8", write_through=True)
+    with mock.patch.multiple(sys, stdin=given, stdout=stdout, stderr=errors):
+        try:
+            status = load_logtool().main(words)
+        except SystemExit as end:
+            status = end.code
+    return Result(status, output.getvalue(), errors.getvalue())
+
+
+def check_output(checks: Checks, words: List[str], data: bytes, expected: bytes) -> None:
+    """Check the output of a command that goes well."""
+    result = command(words, data)
+    name = "logtool " + " ".join(words)
+    checks.equal(f"{name}: output", result.output, expected)
+    checks.equal(f"{name}: status and errors", (result.status, result.message), (0, ""))
+
+
+def check_bad(checks: Checks, words: List[str], parts: List[str], data: bytes = b"") -> None:
+    """Check status 2, no output, and a message with these parts."""
+    result = command(words, data)
+    name = "logtool " + " ".join(words)
+    checks.equal(f"{name}: status", result.status, 2)
+    checks.equal(f"{name}: output", result.output, b"")
+    fits = all(part in result.message for part in parts)
+    checks.true(f"{name}: message", fits, result.message)
+
+
+def test_standard_input_and_output(checks: Checks, options: Options) -> None:
+    text = logtext.disassemble(RUN_B_INPUT)
+    check_output(checks, ["assemble", "-"], text, RUN_B_INPUT)
+    check_output(checks, ["assemble", "-", "-o", "-"], text, RUN_B_INPUT)
+    check_output(checks, ["disassemble", "-"], RUN_B_INPUT, text)
+    for words in (["assemble", "-"], ["disassemble", "-"], ["show", "-"]):
+        check_output(checks, words, b"", b"")
+    long = bytes(limits.LOG_LIMIT + 1)
+    check_output(checks, ["assemble", "-"], logtext.disassemble(long), long)
+
+
+def test_files(checks: Checks, options: Options) -> None:
+    with tempfile.TemporaryDirectory() as place:
+        log, text, bad = (os.path.join(place, name) for name in ("a.log", "a.txt", "bad.txt"))
+        for path, data in ((log, RUN_B_INPUT), (bad, b"start 0\n\nopne 0\n")):
+            with open(path, "wb") as file:
+                file.write(data)
+        check_output(checks, ["disassemble", log, "-o", text], b"", b"")
+        check_output(checks, ["assemble", text], b"", RUN_B_INPUT)
+        out = os.path.join(place, "out")
+        check_bad(checks, ["assemble", bad, "-o", out], [f"{bad}, line 3: found 'opne'"])
+        checks.true("nothing written after an error", not os.path.exists(out))
+        check_bad(checks, ["disassemble", log, "-o", log], [log, "the input itself"])
+        check_bad(checks, ["disassemble", log, "-o", place], [place, "expected a place to write"])
+        check_bad(checks, ["assemble", place], [place, "expected a file that can be read"])
+        check_bad(checks, ["graph", log, "-o", out], [out, ".svg or .dot"])
+
+
+def test_bad_commands(checks: Checks, options: Options) -> None:
+    check_bad(checks, [], ["COMMAND"])
+    check_bad(checks, ["unknown"], ["assemble"])
+    check_bad(checks, ["assemble"], ["FILE"])
+    for name in ("assemble", "disassemble", "show", "graph"):
+        words = [name, "no-directory/file"]
+        check_bad(checks, words, ["no-directory/file", "No such file", "expected a file"])
+    check_bad(checks, ["assemble", "-"], ["standard input, line 1: found 'x'"], b"x\n")
+    for name in ("show", "graph"):
+        parts = ["standard input", "more than 65536 bytes", "expected at most"]
+        check_bad(checks, [name, "-"], parts, bytes(limits.LOG_LIMIT + 1))
+
+
+def test_terminal_gets_no_bytes(checks: Checks, options: Options) -> None:
+    master, slave = pty.openpty()
+    try:
+        result = subprocess.run(
+            LOGTOOL + ["assemble", LOGS[0]], stdout=slave, stderr=subprocess.PIPE, timeout=60
+        )
+    finally:
+        os.close(slave)
+        os.close(master)
+    message = result.stderr.decode()
+    checks.equal("terminal: status", result.returncode, 2)
+    checks.true("terminal: message", "found a terminal" in message and "-o OUT" in message, message)
+
+
+def test_own_process(checks: Checks, options: Options) -> None:
+    for words, status in ((["disassemble", "-"], 0), (["show", "no-directory/file"], 2)):
+        result = subprocess.run(LOGTOOL + words, input=b"\x10", capture_output=True, timeout=60)
+        checks.equal(f"own process {words}: status", result.returncode, status)
+        checks.equal(f"own process {words}: messages", result.stderr.count(b"\n"), int(status > 0))
+
+
+def test_closed_output(checks: Checks, options: Options) -> None:
+    for words in (["assemble", LOGS[0]], ["--help"]):
+        reader, writer = os.pipe()
+        os.close(reader)
+        result = subprocess.run(LOGTOOL + words, stdout=writer, stderr=subprocess.PIPE, timeout=60)
+        os.close(writer)
+        checks.equal(f"closed output: {words}", result.stderr, b"")
+
+
+def test_help(checks: Checks, options: Options) -> None:
+    for name in ("", "assemble", "disassemble", "show", "graph"):
+        result = command([*filter(None, [name]), "--help"])
+        text = result.output.decode()
+        checks.equal(f"{name} --help: status", result.status, 0)
+        checks.true(f"{name} --help: examples", f"  tools/logtool {name}" in text, text)
+    shapes = command(["--help"]).output.decode()
+    for form in logtext.FORMS:
+        checks.true(f"--help: {form.word}", f"\n  {form.shape}\n" in shapes)
+
+
+def test_show(checks: Checks, options: Options) -> None:
+    expected = (
+        "1  allow                  start 0\n"
+        "2  allow                  create 0 name=5 descriptor=0 container=24\n"
+        "3  allow                  label container=24 item=1\n"
+        "4  rule 0                 forbid item=1 in=panel divert=port\n"
+        "5  allow                  device 0 descriptor=1 device=panel\n"
+        "6  allow                  read 0 descriptor=0\n"
+        "7  modify 0 3             write 0 descriptor=1\n"
+        "8  refused 8 (missing)    write 0 descriptor=2\n"
+        "9  refused 1 (cut short)  raw 10 00  # cut short\n"
+    )
+    check_output(checks, ["show", "-"], RUN_B_INPUT, expected.encode())
+    text_file = os.path.join(modelpath.ROOT, "logs", "run-b.log.txt")
+    check_output(checks, ["show", text_file], b"", expected.encode())
+    long = frame_bytes(0xFF, bytes(5000))
+    shown = f"1  refused 2 (unknown tag)  raw ff 1388 {'00' * 16}...  # unknown tag ff hex\n"
+    check_output(checks, ["show", "-"], long, shown.encode())
+
+
+# The pictures.
+
+
+def state_after(log: bytes) -> State:
+    """The state after a log."""
+    tracker = Tracker()
+    tracker.run_log(log)
+    return tracker.state
+
+
+def crowded_log() -> bytes:
+    """A log with many items, descriptors, names, links and rules."""
+    records = [Call(limits.START, process) for process in limits.PROCESSES]
+    records.append(Call(limits.CREATE, 0, 0, 0, 24))
+    records += [Call(limits.LABEL, 0, 24, item) for item in range(0, 64, 2)]
+    records += [Call(limits.LINK, 0, 0, name) for name in range(1, 128, 2)]
+    records += [Call(limits.DEVICE, 0, 30, 2), Call(limits.MAP_BOTH, 0, 30)]
+    for process in limits.PROCESSES:
+        records += [Call(limits.OPEN, process, 0, descriptor) for descriptor in range(1, 30)]
+        records.append(Call(limits.MAP_BOTH if process % 2 else limits.MAP_READ, process, 1))
+    records += [deny(1, range(0, 64, 2), 1, 3)] * 20 + [combination(1, 3)] * 12
+    return b"".join(map(encode, records))
+
+
+def box_of(group: ElementTree.Element) -> Tuple[float, float, float, float]:
+    """Left, top, right and bottom of a box."""
+    sizes: Dict[str, float] = {
+        key: float(group.find(f"{SVG}rect").get(key)) for key in ("x", "y", "width", "height")
+    }
+    right, bottom = sizes["x"] + sizes["width"], sizes["y"] + sizes["height"]
+    return sizes["x"], sizes["y"], right, bottom
+
+
+def texts_outside(group: ElementTree.Element) -> List[str]:
+    """The texts of a group that do not fit in its box."""
+    left, top, right, bottom = box_of(group)
+    return [
+        text.text
+        for text in group.iter(f"{SVG}text")
+        if not left < float(text.get("x")) < right - len(text.text) * picture.CHARACTER
+        or not top + picture.TEXT_SIZE < float(text.get("y")) < bottom
+    ]
+
+
+def check_svg(checks: Checks, name: str, state: State) -> None:
+    """Check form, boxes and links of a picture."""
+    svg = ElementTree.fromstring(picture.svg_text(state, name))
+    groups = {group.get("id"): group for group in svg.iter(f"{SVG}g")}
+    shown = [f"container-{container}" for container in picture.shown_containers(state)]
+    checks.equal(f"{name}: boxes", [g for g in groups if g.startswith("container")], shown)
+    heads = sum(1 for _ in svg.iter(f"{SVG}polygon"))
+    checks.equal(f"{name}: a head a link", heads, len(state.links))
+    places = [box_of(groups[key]) for key in shown]
+    width, height = float(svg.get("width")), float(svg.get("height"))
+    inside = all(a >= 0 and b >= 0 and c <= width and d <= height for a, b, c, d in places)
+    checks.true(f"{name}: boxes inside", inside)
+    apart = all(
+        one[2] < two[0] or two[2] < one[0] or one[3] < two[1] or two[3] < one[1]
+        for number, one in enumerate(places)
+        for two in places[:number]
+    )
+    checks.true(f"{name}: boxes apart", apart)
+    checks.equal(f"{name}: texts", [t for key in shown for t in texts_outside(groups[key])], [])
+
+
+def check_dot(checks: Checks, name: str, state: State) -> None:
+    """Check boxes and links of a dot text."""
+    lines = picture.dot_text(state, name).splitlines()
+    checks.equal(f"{name}: dot frame", (lines[0], lines[-1]), ("digraph state {", "}"))
+    edges = [line.split(" [")[0].strip() for line in lines if "constraint" in line]
+    checks.equal(f"{name}: dot links", edges, [f"c{u} -> c{v}" for u, v in sorted(state.links)])
+    boxes = sum(1 for line in lines if line.startswith("    c") and "fillcolor" in line)
+    checks.equal(f"{name}: dot boxes", boxes, len(picture.shown_containers(state)))
+    checks.true(f"{name}: dot quotes", all(line.count('"') % 2 == 0 for line in lines))
+
+
+def test_pictures(checks: Checks, options: Options) -> None:
+    logs = {"no records": b"", "run B": RUN_B_INPUT, "crowded": crowded_log()}
+    for seed in range(options.seed, options.seed + 10):
+        logs[f"log of seed {seed}"] = b"".join(generate_records(seed, 300, "deep"))
+    for name, log in logs.items():
+        state = state_after(log)
+        check_svg(checks, name, state)
+        check_dot(checks, name, state)
+    crowded = state_after(crowded_log())
+    checks.equal("crowded: links", len(crowded.links), 2 + 16 + 8)
+    checks.equal("crowded: rules", len(crowded.rules), 32)
+    ElementTree.fromstring(picture.svg_text(State(), 'a\x01"<&\udc80'))
+    checks.true("a strange name", '"a?\\"<&?\\l' in picture.dot_text(State(), 'a\x01"<&\udc80'))
+
+
+def test_graph_command(checks: Checks, options: Options) -> None:
+    state = state_after(RUN_B_INPUT)
+    title = "State after standard input"
+    dot, svg = (draw(state, title).encode() for draw in (picture.dot_text, picture.svg_text))
+    check_output(checks, ["graph", "-"], RUN_B_INPUT, dot)
+    check_output(checks, ["graph", "-", "--format", "svg"], RUN_B_INPUT, svg)
+    with tempfile.TemporaryDirectory() as place:
+        for ending, expected in ((".dot", dot), (".svg", svg), (".SVG", svg)):
+            path = os.path.join(place, "picture" + ending)
+            check_output(checks, ["graph", "-", "-o", path], RUN_B_INPUT, b"")
+            with open(path, "rb") as file:
+                checks.equal(f"graph -o picture{ending}", file.read(), expected)
+
+
+# The logs.
+
+
+def read_file(path: str) -> bytes:
+    """The bytes of a file."""
+    with open(path, "rb") as file:
+        return file.read()
+
+
+def named_log(name: str) -> bytes:
+    """The bytes of a log of logs/."""
+    return logtext.assemble(read_file(os.path.join(modelpath.ROOT, "logs", f"{name}.log.txt")))
+
+
+def answer_lines(log: bytes) -> List[str]:
+    """The model's answers to a log."""
+    return [str(answer) for answer in Tracker().run_log(log)]
+
+
+def test_logs_get_their_answers(checks: Checks, options: Options) -> None:
+    names = [os.path.basename(path)[: -len(".log.txt")] for path in LOGS]
+    checks.equal("logs", names, ["evaluation", "rowers", "run-b"])
+    for name in names:
+        expected = read_file(os.path.join(modelpath.ROOT, "logs", f"{name}.expected")).decode()
+        renew = f"tools/logtool assemble logs/{name}.log.txt | model/modelrun answers -"
+        answers = "".join(line + "\n" for line in answer_lines(named_log(name)))
+        checks.true(f"answers to {name}", answers == expected, f"see what is right: {renew}")
+        check_round_trips(checks, f"round trip of {name}", [named_log(name)])
+
+
+def test_run_b(checks: Checks, options: Options) -> None:
+    checks.equal("run B: bytes", named_log("run-b"), RUN_B_INPUT)
+    checks.equal("run B: answers", answer_lines(named_log("run-b")), RUN_B_OUTPUT.splitlines())
+
+
+def stopped(name: str) -> List[Tuple[str, str]]:
+    """The inhibited records of a log, with their answers."""
+    log = named_log(name)
+    texts = [logtext.record_text(record) for record in logtext.split_records(log)]
+    return [pair for pair in zip(texts, answer_lines(log)) if pair[1].startswith("inhibit")]
+
+
+def next_only(state: State, container: int) -> set:
+    """A wrong reach: the first link only."""
+    return {container} | {target for source, target in state.links if source == container}
+
+
+def test_rowers(checks: Checks, options: Options) -> None:
+    label = ("label container=24 item=2", "inhibit 0")
+    write = ("write 1 descriptor=1", "inhibit 0")
+    checks.equal("rowers: stopped", stopped("rowers"), [label, write])
+    held = state_after(named_log("rowers")).items
+    checks.equal("rowers: the two files", (held[26], held[27]), ({1}, {2}))
+    with mock.patch.object(State, "reach", next_only):
+        checks.equal("rowers: first link only", stopped("rowers"), [label])
+
+
+def test_evaluation(checks: Checks, options: Options) -> None:
+    upload, copy, append = (f"write 1 descriptor={descriptor}" for descriptor in (3, 4, 1))
+    denials = [(upload, "inhibit 0"), (copy, "inhibit 1"), (append, "inhibit 2")]
+    checks.equal("evaluation: denials", stopped("evaluation"), denials)
+    state = state_after(named_log("evaluation"))
+    held = {name: set(state.items[container]) for name, container in state.names.items()}
+    expected = {0: {1}, 1: {2}, 2: {3}, 4: {1}, 5: {1}, 6: {1}, 7: set()}
+    checks.equal("evaluation: what the files hold", held, expected)
+    checks.equal("evaluation: network", state.items[0], set())
+
+
+def main() -> int:
+    """Run the tests and print the counts."""
+    parser = argparse.ArgumentParser(description="Test logtool and the logs.", allow_abbrev=False)
+    parser.add_argument("--seed", type=int, default=DEFAULT_SEED, help="seed of the first case")
+    parser.add_argument("--cases", type=int, default=20, help="cases of the test of random bytes")
+    arguments = parser.parse_args()
+    options = Options(arguments.seed, arguments.cases)
+    print(f"seeds from {options.seed}, {options.cases} cases of random bytes")
+    checks = Checks()
+    for name, test in list(globals().items()):
+        if name.startswith("test_"):
+            checks.run(test, options)
+    print(f"{checks.passed} passed, {checks.failed} failed")
+    return 1 if checks.failed else 0
+
+
+if __name__ == "__main__":
+    sys.exit(main())
