@@ -1,12 +1,12 @@
 -- Laws of the tables, of the files in them, and of the containers in use.
 use Prim.Native.Nat.{ℕ, zero, suc, _+_, _-_, _*_, _/_, _%_, _^_, _≤_, _<_}
 use native.Mathlib.Omega.{arith}
-use native.Mathlib.Nat.{not-suc-le-zero, le-of-suc-le-suc}
+use native.Mathlib.Nat.{not-suc-le-zero, le-of-suc-le-suc, mod-eq-of-lt}
 use native.Mathlib.Numerals.{add-one}
 use mathlib.Core.Path.{_≡_, refl, sym, ap, ap₂, _∙_}
 use mathlib.Core.Bool.{Bool, true, false, not, _&&_, _||_, or-assoc, or-comm, or-true, or-false, and-comm, and-true, and-false, and-or-distrib-left}
 use mathlib.Core.List.{List, [], _∷_}
-use lib.Bits.{bitOr, or-lt, or-comm as bits-comm, and-high, and-le-r}
+use lib.Bits.{bitOr, or-lt, or-comm as bits-comm, or-zero-l, and-high, and-le-r}
 use lib.Dec.{ltb, leb, eqb}
 use lib.ListN.{length, getD, take}
 use lib.Pow.{pow-mono, shl-shr, shr-shr}
@@ -93,6 +93,10 @@ pub union-comm : (x y : ℕ) → x ∪ y ≡ y ∪ x
 unfolding _∪_
 union-comm x y = bits-comm x y
 
+pub union-none : (x : ℕ) → x ∪ 0 ≡ x
+unfolding _∪_
+union-none x = bits-comm x 0 ∙ or-zero-l x
+
 pub unionOf-more : (l : List ℕ) (i : ℕ) → i < length l → unionOf (take (i + 1) l) ≡ unionOf (take i l) ∪ getD l i 0
 unfolding unionOf
 unionOf-more = all-more unionOf _∪_ (λ x. x) (λ x l. refl) union-assoc union-comm
@@ -100,6 +104,9 @@ unionOf-more = all-more unionOf _∪_ (λ x. x) (λ x l. refl) union-assoc union
 pub filesIn-more : (l : List ℕ) (i : ℕ) → i < length l → filesIn (take (i + 1) l) ≡ filesIn (take i l) ∪ fileSet (getD l i 0)
 unfolding filesIn
 filesIn-more = all-more filesIn _∪_ fileSet (λ x l. refl) union-assoc union-comm
+
+pub filesIn-next : (l : List ℕ) (i x y : ℕ) → i < length l → x ≡ filesIn (take i l) → y ≡ x ∪ fileSet (getD l i 0) → y ≡ filesIn (take (i + 1) l)
+filesIn-next l i x y h e f = f ∙ ap (λ (z : ℕ). z ∪ fileSet (getD l i 0)) e ∙ sym (filesIn-more l i h)
 
 -- f holds of some number below n + 1 where it holds of n or of some number below n
 pub some-more : (n : ℕ) (f : ℕ → Bool) → someBelow (suc n) f ≡ (f n || someBelow n f)
@@ -152,6 +159,13 @@ fileSet-file e h = chosen-l (isFile e) (only e) 0 h
 pub fileSet-none : (e : ℕ) → isFile e ≡ false → fileSet e ≡ 0
 unfolding fileSet
 fileSet-none e h = chosen-r (isFile e) (only e) 0 h
+
+-- a set with an entry's file, and with that of an entry which is none
+pub file-added : (x e : ℕ) → isFile e ≡ true → x ∪ only (e % 64) ≡ x ∪ fileSet e
+file-added x e h = ap (λ (y : ℕ). x ∪ y) (ap only (mod-eq-of-lt (file-range e h .1)) ∙ sym (fileSet-file e h))
+
+pub none-added : (x e : ℕ) → isFile e ≡ false → x ≡ x ∪ fileSet e
+none-added x e h = sym (ap (λ (y : ℕ). x ∪ y) (fileSet-none e h) ∙ union-none x)
 
 pub fileSet-has : (e c : ℕ) → has (fileSet e) c ≡ (isFile c && eqb c e)
 fileSet-has e c =

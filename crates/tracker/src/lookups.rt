@@ -7,6 +7,7 @@ use crate::numbers::Process;
 ghost use mathlib.Core.Path.{_≡_};
 ghost use Prim.Native.Nat.{ℕ, _%_};
 ghost use lib.ListN.{getD};
+ghost use Rattle.sets.specs.Sets.{_∪_};
 ghost use Rattle.flow.specs.Tables.{isIn};
 ghost use Rattle.flow.specs.Box.{leads as leadsTo, slot, closed};
 ghost use Rattle.flow.specs.Links.{used};
@@ -103,13 +104,23 @@ pub fn file_set(e: u8) -> u64
     0
 }
 
+// x with e where e is a file or pipe.
+fn with_file(x: u64, e: u8) -> u64
+    ensures { λ r. ⌜ r ≡ x ∪ fileSet e ⌝ }
+{
+    if (24 <= e) & (e < 64) {
+        return sets::with(x, e);
+    }
+    x
+}
+
 // The files and pipes that stand in a table.
 pub fn files_in(table: &[u8]) -> u64
     ensures { λ r. ⌜ r ≡ filesIn (now (table .entry)) ⌝ }
 {
     let mut x = 0u64;
     for i in 0..table.len() {
-        x = x | file_set(table[i]);
+        x = with_file(x, table[i]);
     }
     x
 }

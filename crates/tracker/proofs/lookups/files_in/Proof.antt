@@ -1,12 +1,11 @@
 -- `files_in`: before entry i the set has the files before it.
 use Prim.Native.Nat.{_-_, _≤_}
-use mathlib.Core.Path.{_≡_, refl, sym, ap, _∙_}
+use mathlib.Core.Path.{_≡_, refl, ap, _∙_}
 use lib.ListN.{length, take}
 use lib.Seq.{take-all}
 use borrow.Author.Needs.{needs}
-use Rattle.sets.specs.Sets.{_∪_}
 use Rattle.tracker.specs.Marks.{filesIn}
-use Rattle.tracker.proofs.LookupLaws.{filesIn-more}
+use Rattle.tracker.proofs.LookupLaws.{filesIn-next}
 use Rattle.tracker.proofs.lookups.files_in.Statement.{statement}
 use Rattle.tracker.proofs.lookups.files_in.Tie as tie
 
@@ -20,11 +19,11 @@ loop-holds : tie.Need-loop-holds Inv-loop μ-loop
 unfolding filesIn
 loop-holds c = (search needs, refl)
 
-shared-slice-read-file-set : tie.Need-shared-slice-read-file-set Inv-loop μ-loop
-shared-slice-read-file-set c = search needs
+shared-slice-read-with-file : tie.Need-shared-slice-read-with-file Inv-loop μ-loop
+shared-slice-read-with-file c = search needs
 
-file-set-requires : tie.Need-file-set-requires Inv-loop μ-loop
-file-set-requires c κs = search needs
+with-file-requires : tie.Need-with-file-requires Inv-loop μ-loop
+with-file-requires c κs = search needs
 
 add-i : tie.Need-add-i Inv-loop μ-loop
 add-i c = search needs
@@ -33,12 +32,10 @@ loop-less : tie.Need-loop-less Inv-loop μ-loop
 loop-less c = search needs
 
 loop-again : tie.Need-loop-again Inv-loop μ-loop
-unfolding _∪_
-loop-again c =
-    (search needs, rw (c .before .before .before .loop .inv .1, c .file-set .ensures) (sym (filesIn-more _ _ (c .before .before .loop-test .taken))))
+loop-again c = (search needs, filesIn-next _ _ _ _ (c .before .before .loop-test .taken) (c .before .before .before .loop .inv .1) (c .with-file .ensures))
 
 returns : tie.Need-returns Inv-loop μ-loop
 returns c = c .before .loop .inv .1 ∙ ap filesIn (take-all _ _ (c .loop-test .left))
 
 pub files-in-spec : {M : Type 1} → statement M
-files-in-spec = tie.close (tie.spec Inv-loop μ-loop loop-holds shared-slice-read-file-set file-set-requires add-i loop-less loop-again returns)
+files-in-spec = tie.close (tie.spec Inv-loop μ-loop loop-holds shared-slice-read-with-file with-file-requires add-i loop-less loop-again returns)

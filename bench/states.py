@@ -1,0 +1,216 @@
+"""The states in which calls are measured, as the calls that lead there.
+
+No container holds an item but where label is measured, and there the items are
+those that the call gives. So no measured call changes what the program prints
+at its end. The tracker only moves items: no branch goes by them.
+"""
+
+import sys
+from pathlib import Path
+from typing import Dict, List, NamedTuple
+
+ROOT = Path(__file__).resolve().parent.parent
+sys.path.insert(0, str(ROOT / "model"))
+
+from limits import (  # noqa: E402
+    CLOSE,
+    CREATE,
+    DESCRIPTORS,
+    DEVICE,
+    DEVICES,
+    DUP,
+    EXIT,
+    FILES,
+    FORK,
+    LABEL,
+    LINK,
+    MAP_BOTH,
+    MAP_READ,
+    NAMES,
+    OPEN,
+    PIPE,
+    PROCESSES,
+    READ,
+    RENAME,
+    START,
+    TRUNCATE,
+    UNLINK,
+    UNMAP,
+    WRITE,
+)
+from records import Call  # noqa: E402
+
+KIND_NAMES = {
+    START: "start",
+    OPEN: "open",
+    CREATE: "create",
+    PIPE: "pipe",
+    DEVICE: "device",
+    DUP: "dup",
+    CLOSE: "close",
+    READ: "read",
+    WRITE: "write",
+    TRUNCATE: "truncate",
+    MAP_READ: "map read",
+    MAP_BOTH: "map both",
+    UNMAP: "unmap",
+    UNLINK: "unlink",
+    RENAME: "rename",
+    LINK: "link",
+    FORK: "fork",
+    EXIT: "exit",
+    LABEL: "label",
+}
+
+
+class Case(NamedTuple):
+    """A call, and the calls before it."""
+
+    before: List[Call]
+    call: Call
+
+
+def small_cases() -> Dict[int, Case]:
+    """One live process, 0, and one file, 24, under name 0 and descriptor 0."""
+    base = [Call(START, 0), Call(CREATE, 0, 0, 0, 24)]
+    mapped = [*base, Call(MAP_READ, 0, 0)]
+    labelled = [*base, Call(LABEL, 0, 24, 0)]
+    calls = [
+        Call(START, 1),
+        Call(OPEN, 0, 0, 1),
+        Call(CREATE, 0, 1, 1, 25),
+        Call(PIPE, 0, 1, 2, 25),
+        Call(DEVICE, 0, 1, 0),
+        Call(DUP, 0, 0, 1),
+        Call(CLOSE, 0, 0),
+        Call(READ, 0, 0),
+        Call(WRITE, 0, 0),
+        Call(TRUNCATE, 0, 0),
+        Call(MAP_READ, 0, 0),
+        Call(MAP_BOTH, 0, 0),
+        Call(UNMAP, 0, 24),
+        Call(UNLINK, 0, 0),
+        Call(RENAME, 0, 0, 1),
+        Call(LINK, 0, 0, 1),
+        Call(FORK, 0, 1),
+        Call(EXIT, 0),
+        Call(LABEL, 0, 24, 0),
+    ]
+    before = {UNMAP: mapped, LABEL: labelled}
+    return {call.kind: Case(before.get(call.kind, base), call) for call in calls}
+
+
+# The worst state. FIRST is a file that feeds process 15 alone, and so is HIDDEN, which has no name and no descriptor.
+# Process k gives to process k - 1 through a file of its own, from 15 down to 0: each search for the next process tries
+# every lower one first. Process 0, the last, gives to the devices and to most other files.
+GIVER = PROCESSES[-1]
+FIRST = FILES[0]
+HIDDEN = FILES[1]
+FILLER = FILES[17]
+FREE = FILES[-1]
+D_FIRST, D_WORK, D_OTHER, D_LAST = 0, 2, DESCRIPTORS[-2], DESCRIPTORS[-1]
+N_FIRST, N_FILLER, N_WORK, N_OTHER, N_LAST = 0, 1, 2, NAMES[-2], NAMES[-1]
+
+
+def chain_file(process: int) -> int:
+    """The file through which a process gives to the next lower one."""
+    return HIDDEN + 1 + GIVER - process
+
+
+def mapped_only(process: int, file: int, kind: int) -> List[Call]:
+    """A file that the process maps, with no name and no descriptor."""
+    return [
+        Call(CREATE, process, N_WORK, D_WORK, file),
+        Call(kind, process, D_WORK),
+        Call(CLOSE, process, D_WORK),
+        Call(UNLINK, process, N_WORK),
+    ]
+
+
+def link_of_chain(giver: int, receiver: int) -> List[Call]:
+    """Links from one process to a file and from that to another process."""
+    return [
+        Call(CREATE, giver, N_WORK, D_WORK, chain_file(giver)),
+        Call(MAP_BOTH, giver, D_WORK),
+        Call(OPEN, receiver, N_WORK, D_WORK),
+        Call(MAP_READ, receiver, D_WORK),
+        Call(CLOSE, receiver, D_WORK),
+        Call(CLOSE, giver, D_WORK),
+        Call(UNLINK, giver, N_WORK),
+    ]
+
+
+def worst_state(live: range, spread: bool) -> List[Call]:
+    """The worst state; with spread the last process of the chain gives to many containers."""
+    last = live[0]
+    calls = [Call(START, process) for process in live]
+    calls += [Call(CREATE, GIVER, N_FIRST, D_FIRST, FIRST), Call(MAP_READ, GIVER, D_FIRST)]
+    calls += mapped_only(GIVER, HIDDEN, MAP_READ)
+    for giver in range(GIVER, last, -1):
+        calls += link_of_chain(giver, giver - 1)
+    if spread:
+        for device in DEVICES:
+            calls += [Call(DEVICE, last, D_WORK, device), Call(MAP_BOTH, last, D_WORK)]
+            calls += [Call(CLOSE, last, D_WORK)]
+        for file in range(FILLER + 1, FREE):
+            calls += mapped_only(last, file, MAP_BOTH)
+    calls += [Call(CREATE, GIVER, N_FILLER, D_WORK, FILLER)]
+    calls += [Call(LINK, GIVER, N_FILLER, n) for n in NAMES if n not in (N_FIRST, N_FILLER)]
+    opened = {(GIVER, D_FIRST), (GIVER, D_WORK)}
+    closed = [(p, d) for p in live for d in DESCRIPTORS if (p, d) not in opened]
+    calls += [Call(OPEN, p, N_FILLER, d) for p, d in closed]
+    return calls + [Call(MAP_BOTH, last, D_WORK)] if spread else calls
+
+
+def own_pipe(file: int, kept: int, other: int) -> List[Call]:
+    """Make one descriptor the only way to a file."""
+    return [
+        Call(CLOSE, GIVER, kept),
+        Call(CLOSE, GIVER, other),
+        Call(PIPE, GIVER, kept, other, file),
+        Call(CLOSE, GIVER, other),
+        Call(OPEN, GIVER, N_FILLER, other),
+    ]
+
+
+def worst_cases() -> Dict[int, Case]:
+    """The worst state, less what the call needs free, and the call at its worst place."""
+    full = worst_state(PROCESSES, spread=True)
+    one_dead = worst_state(PROCESSES[1:], spread=True)
+    apart = worst_state(PROCESSES, spread=False)
+    freed = [Call(CLOSE, GIVER, D_LAST)]
+    unbound = [Call(UNLINK, GIVER, N_LAST)]
+    # FREE has no use but the name N_LAST
+    named_only = [
+        *freed,
+        *unbound,
+        Call(CREATE, GIVER, N_LAST, D_LAST, FREE),
+        Call(CLOSE, GIVER, D_LAST),
+        Call(OPEN, GIVER, N_FILLER, D_LAST),
+    ]
+    many_owned = list(apart)
+    for number, file in enumerate(range(FILLER + 1, FREE + 1)):
+        many_owned += own_pipe(file, D_WORK + 1 + number, D_LAST)
+    label = Call(LABEL, 0, HIDDEN, 0)
+    cases = [
+        Case(one_dead, Call(START, 0)),
+        Case(full + freed, Call(OPEN, GIVER, N_FILLER, D_LAST)),
+        Case(full + freed + unbound, Call(CREATE, GIVER, N_LAST, D_LAST, FREE)),
+        Case(full + freed + [Call(CLOSE, GIVER, D_OTHER)], Call(PIPE, GIVER, D_OTHER, D_LAST, FREE)),
+        Case(full + freed, Call(DEVICE, GIVER, D_LAST, DEVICES[-1])),
+        Case(full + freed, Call(DUP, GIVER, D_FIRST, D_LAST)),
+        Case(full + own_pipe(FREE, D_OTHER, D_LAST), Call(CLOSE, GIVER, D_OTHER)),
+        Case(full, Call(READ, GIVER, D_FIRST)),
+        Case(full, Call(WRITE, GIVER, D_FIRST)),
+        Case(full, Call(TRUNCATE, GIVER, D_FIRST)),
+        Case(full, Call(MAP_READ, GIVER, D_FIRST)),
+        Case(full, Call(MAP_BOTH, GIVER, D_FIRST)),
+        Case(full, Call(UNMAP, GIVER, HIDDEN)),
+        Case(full + named_only, Call(UNLINK, GIVER, N_LAST)),
+        Case(full + named_only, Call(RENAME, GIVER, N_OTHER, N_LAST)),
+        Case(full + unbound, Call(LINK, GIVER, N_FILLER, N_LAST)),
+        Case(one_dead, Call(FORK, GIVER, 0)),
+        Case(many_owned, Call(EXIT, GIVER)),
+        Case(full + [label], label),
+    ]
+    return {case.call.kind: case for case in cases}
