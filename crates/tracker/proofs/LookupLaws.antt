@@ -12,15 +12,15 @@ use lib.ListN.{length, getD, take}
 use lib.Pow.{pow-mono, shl-shr, shr-shr}
 use lib.Seq.{take-length}
 use mir.Val.{boolByte}
-use borrow.Author.Tests.{ltb-true, ltb-false, leb-true, eqb-true, lt-ltb, le-ltb, le-leb, lt-leb}
+use borrow.Author.Tests.{ltb-true, ltb-false, leb-true, eqb-true, ne-eqb, lt-ltb, le-ltb, le-leb, lt-leb}
 use Rattle.sets.specs.Sets.{has, only, thoseFrom, bit, those, _∪_, _∩_}
 use Rattle.sets.proofs.Members.{union-has, inter-has, only-has, none-has, those-has, those-lt, union-lt, only-lt, same-members, set-ext, eqb-sym}
 use Rattle.flow.specs.Tables.{someBelow, isIn}
 use Rattle.flow.specs.Box.{isDevice, isProcess, isFile, State, feedersOf, fedBy}
 use Rattle.flow.specs.Links.{mapped, used}
-use Rattle.flow.proofs.Bools.{and-l, and-r, and-i, by, chosen-l, chosen-r}
+use Rattle.flow.proofs.Bools.{and-l, and-r, and-i, by, no-both, chosen-l, chosen-r}
 use Rattle.flow.proofs.Reach.{is-process}
-use Rattle.tracker.specs.Marks.{fileSet, filesIn, unionOf, usedSet}
+use Rattle.tracker.specs.Marks.{fileSet, entrySet, entriesIn, filesIn, unionOf, usedSet}
 
 -- ---- lists
 -- an element does not depend on the default
@@ -101,12 +101,12 @@ pub unionOf-more : (l : List ℕ) (i : ℕ) → i < length l → unionOf (take (
 unfolding unionOf
 unionOf-more = all-more unionOf _∪_ (λ x. x) (λ x l. refl) union-assoc union-comm
 
-pub filesIn-more : (l : List ℕ) (i : ℕ) → i < length l → filesIn (take (i + 1) l) ≡ filesIn (take i l) ∪ fileSet (getD l i 0)
-unfolding filesIn
-filesIn-more = all-more filesIn _∪_ fileSet (λ x l. refl) union-assoc union-comm
+entriesIn-more : (l : List ℕ) (i : ℕ) → i < length l → entriesIn (take (i + 1) l) ≡ entriesIn (take i l) ∪ entrySet (getD l i 0)
+unfolding entriesIn
+entriesIn-more = all-more entriesIn _∪_ entrySet (λ x l. refl) union-assoc union-comm
 
-pub filesIn-next : (l : List ℕ) (i x y : ℕ) → i < length l → x ≡ filesIn (take i l) → y ≡ x ∪ fileSet (getD l i 0) → y ≡ filesIn (take (i + 1) l)
-filesIn-next l i x y h e f = f ∙ ap (λ (z : ℕ). z ∪ fileSet (getD l i 0)) e ∙ sym (filesIn-more l i h)
+pub entriesIn-next : (l : List ℕ) (i x y : ℕ) → i < length l → x ≡ entriesIn (take i l) → y ≡ x ∪ entrySet (getD l i 0) → y ≡ entriesIn (take (i + 1) l)
+entriesIn-next l i x y h e f = f ∙ ap (λ (z : ℕ). z ∪ entrySet (getD l i 0)) e ∙ sym (entriesIn-more l i h)
 
 -- f holds of some number below n + 1 where it holds of n or of some number below n
 pub some-more : (n : ℕ) (f : ℕ → Bool) → someBelow (suc n) f ≡ (f n || someBelow n f)
@@ -160,12 +160,26 @@ pub fileSet-none : (e : ℕ) → isFile e ≡ false → fileSet e ≡ 0
 unfolding fileSet
 fileSet-none e h = chosen-r (isFile e) (only e) 0 h
 
--- a set with an entry's file, and with that of an entry which is none
-pub file-added : (x e : ℕ) → isFile e ≡ true → x ∪ only (e % 64) ≡ x ∪ fileSet e
-file-added x e h = ap (λ (y : ℕ). x ∪ y) (ap only (mod-eq-of-lt (file-range e h .1)) ∙ sym (fileSet-file e h))
+-- a set with an entry, and with one that is no container's number
+pub entry-added : (x e : ℕ) → e < 64 → x ∪ only (e % 64) ≡ x ∪ entrySet e
+unfolding entrySet
+entry-added x e h = ap (λ (y : ℕ). x ∪ y) (ap only (mod-eq-of-lt h) ∙ sym (chosen-l (ltb e 64) (only e) 0 (lt-ltb e 64 h)))
 
-pub none-added : (x e : ℕ) → isFile e ≡ false → x ≡ x ∪ fileSet e
-none-added x e h = sym (ap (λ (y : ℕ). x ∪ y) (fileSet-none e h) ∙ union-none x)
+pub none-added : (x e : ℕ) → 64 ≤ e → x ≡ x ∪ entrySet e
+unfolding entrySet
+none-added x e h = sym (ap (λ (y : ℕ). x ∪ y) (chosen-r (ltb e 64) (only e) 0 (le-ltb e 64 h)) ∙ union-none x)
+
+entrySet-has : (e c : ℕ) → c < 64 → has (entrySet e) c ≡ eqb c e
+unfolding entrySet
+entrySet-has e c h =
+    by (ltb e 64)
+    (λ q. ap (λ (x : ℕ). has x c) (chosen-l (ltb e 64) (only e) 0 q) ∙ only-has e c ∙ eqb-sym e c)
+    (λ q. ap (λ (x : ℕ). has x c) (chosen-r (ltb e 64) (only e) 0 q) ∙ none-has c ∙ sym (ne-eqb c e (λ w. no-both (lt-ltb c 64 h) (ap (λ (n : ℕ). ltb n 64) w ∙ q))))
+
+entriesIn-has : (l : List ℕ) (c : ℕ) → c < 64 → has (entriesIn l) c ≡ isIn c l
+unfolding entriesIn isIn
+entriesIn-has [] c h = none-has c
+entriesIn-has (e ∷ l) c h = union-has (entrySet e) (entriesIn l) c ∙ ap₂ _||_ (entrySet-has e c h) (entriesIn-has l c h) ∙ sym (isIn-cons c e l)
 
 pub fileSet-has : (e c : ℕ) → has (fileSet e) c ≡ (isFile c && eqb c e)
 fileSet-has e c =
@@ -202,6 +216,18 @@ device-has c h = those-has isDevice c h
 file-has : (c : ℕ) → c < 64 → has 0xFFFF_FFFF_FF00_0000 c ≡ isFile c
 unfolding those thoseFrom bit isFile
 file-has c h = those-has isFile c h
+
+file-part-lt : (x : ℕ) → (x ∩ 0xFFFF_FFFF_FF00_0000) < 2 ^ 64
+unfolding _∩_
+file-part-lt x = omega (arith, and-le-r x 0xFFFF_FFFF_FF00_0000)
+
+-- the files and pipes of a list are its containers of that kind
+pub entries-files : (l : List ℕ) → entriesIn l ∩ 0xFFFF_FFFF_FF00_0000 ≡ filesIn l
+entries-files l =
+    set-ext (entriesIn l ∩ 0xFFFF_FFFF_FF00_0000) (filesIn l) (file-part-lt (entriesIn l)) (filesIn-lt l)
+    (λ c h.
+      inter-has (entriesIn l) 0xFFFF_FFFF_FF00_0000 c ∙ ap₂ _&&_ (entriesIn-has l c h) (file-has c h) ∙ and-comm (isIn c l) (isFile c)
+      ∙ sym (filesIn-members l c))
 
 process-has : (c : ℕ) → c < 64 → has 0xFF_FF00 c ≡ isProcess c
 unfolding those thoseFrom bit isProcess

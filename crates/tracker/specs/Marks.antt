@@ -2,6 +2,7 @@
 use Prim.Native.Nat.{ℕ, _%_}
 use mathlib.Core.Bool.{true, false, not, _&&_}
 use mathlib.Core.List.{List, [], _∷_}
+use lib.Dec.{ltb}
 use lib.ListN.{getD, set}
 use Rattle.sets.specs.Sets.{has, only, those, _∪_}
 use Rattle.flow.specs.Tables.{table}
@@ -15,6 +16,15 @@ fileSet e = elim (isFile e) [ true ↦ only e | false ↦ 0 ]
 -- all files and pipes: the numbers 24 to 63
 abbrev pub files : ℕ
 files = 0xFFFFFFFFFF000000
+
+-- the set of an entry below 64, whatever it leads to
+unfoldable pub entrySet : ℕ → ℕ
+entrySet e = elim (ltb e 64) [ true ↦ only e | false ↦ 0 ]
+
+-- the containers that stand in a list
+unfoldable pub entriesIn : List ℕ → ℕ
+entriesIn [] = 0
+entriesIn (e ∷ l) = entrySet e ∪ entriesIn l
 
 -- the files and pipes that stand in a list of entries
 unfoldable pub filesIn : List ℕ → ℕ

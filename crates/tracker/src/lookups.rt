@@ -11,7 +11,7 @@ ghost use Rattle.sets.specs.Sets.{_∪_};
 ghost use Rattle.flow.specs.Tables.{isIn};
 ghost use Rattle.flow.specs.Box.{leads as leadsTo, slot, closed};
 ghost use Rattle.flow.specs.Links.{used};
-ghost use Rattle.tracker.specs.Marks.{fileSet, filesIn, unionOf, usedSet};
+ghost use Rattle.tracker.specs.Marks.{fileSet, entrySet, entriesIn, filesIn, unionOf, usedSet};
 ghost use Rattle.tracker.specs.View.{tables};
 
 // Whether an entry leads to a device, a file or a pipe.
@@ -104,12 +104,23 @@ pub fn file_set(e: u8) -> u64
     0
 }
 
-// x with e where e is a file or pipe.
-fn with_file(x: u64, e: u8) -> u64
-    ensures { λ r. ⌜ r ≡ x ∪ fileSet e ⌝ }
+// x with e where e is a container's number.
+fn with_entry(x: u64, e: u8) -> u64
+    ensures { λ r. ⌜ r ≡ x ∪ entrySet e ⌝ }
 {
-    if (24 <= e) & (e < 64) {
+    if e < 64 {
         return sets::with(x, e);
+    }
+    x
+}
+
+// The containers that stand in a table.
+fn entries_in(table: &[u8]) -> u64
+    ensures { λ r. ⌜ r ≡ entriesIn (now (table .entry)) ⌝ }
+{
+    let mut x = 0u64;
+    for i in 0..table.len() {
+        x = with_entry(x, table[i]);
     }
     x
 }
@@ -118,11 +129,7 @@ fn with_file(x: u64, e: u8) -> u64
 pub fn files_in(table: &[u8]) -> u64
     ensures { λ r. ⌜ r ≡ filesIn (now (table .entry)) ⌝ }
 {
-    let mut x = 0u64;
-    for i in 0..table.len() {
-        x = with_file(x, table[i]);
-    }
-    x
+    entries_in(table) & 0xFFFF_FFFF_FF00_0000
 }
 
 // The containers in use.

@@ -1,41 +1,16 @@
--- `files_in`: before entry i the set has the files before it.
-use Prim.Native.Nat.{_-_, _≤_}
-use mathlib.Core.Path.{_≡_, refl, ap, _∙_}
-use lib.ListN.{length, take}
-use lib.Seq.{take-all}
+-- `files_in` has the files and pipes of a table.
 use borrow.Author.Needs.{needs}
-use Rattle.tracker.specs.Marks.{filesIn}
-use Rattle.tracker.proofs.LookupLaws.{filesIn-next}
+use Rattle.sets.specs.Sets.{_∩_}
+use Rattle.tracker.proofs.LookupLaws.{entries-files}
 use Rattle.tracker.proofs.lookups.files_in.Statement.{statement}
 use Rattle.tracker.proofs.lookups.files_in.Tie as tie
 
-abbrev Inv-loop : tie.InvT-loop
-Inv-loop table x₀ i₀ i-end x i = (i ≤ length table) × (x ≡ filesIn (take i table))
+entries-in-requires : tie.Need-entries-in-requires
+entries-in-requires c κs = search needs
 
-abbrev μ-loop : tie.MeasureT-loop
-μ-loop table x₀ i₀ i-end x i = length table - i
-
-loop-holds : tie.Need-loop-holds Inv-loop μ-loop
-unfolding filesIn
-loop-holds c = (search needs, refl)
-
-shared-slice-read-with-file : tie.Need-shared-slice-read-with-file Inv-loop μ-loop
-shared-slice-read-with-file c = search needs
-
-with-file-requires : tie.Need-with-file-requires Inv-loop μ-loop
-with-file-requires c κs = search needs
-
-add-i : tie.Need-add-i Inv-loop μ-loop
-add-i c = search needs
-
-loop-less : tie.Need-loop-less Inv-loop μ-loop
-loop-less c = search needs
-
-loop-again : tie.Need-loop-again Inv-loop μ-loop
-loop-again c = (search needs, filesIn-next _ _ _ _ (c .before .before .loop-test .taken) (c .before .before .before .loop .inv .1) (c .with-file .ensures))
-
-returns : tie.Need-returns Inv-loop μ-loop
-returns c = c .before .loop .inv .1 ∙ ap filesIn (take-all _ _ (c .loop-test .left))
+returns : tie.Need-returns
+unfolding _∩_
+returns c = rw (c .entries-in .ensures) (entries-files _)
 
 pub files-in-spec : {M : Type 1} → statement M
-files-in-spec = tie.close (tie.spec Inv-loop μ-loop loop-holds shared-slice-read-with-file with-file-requires add-i loop-less loop-again returns)
+files-in-spec = tie.close (tie.spec entries-in-requires returns)
