@@ -226,8 +226,8 @@ pub entries-files : (l : List ℕ) → entriesIn l ∩ 0xFFFF_FFFF_FF00_0000 ≡
 entries-files l =
     set-ext (entriesIn l ∩ 0xFFFF_FFFF_FF00_0000) (filesIn l) (file-part-lt (entriesIn l)) (filesIn-lt l)
     (λ c h.
-      inter-has (entriesIn l) 0xFFFF_FFFF_FF00_0000 c ∙ ap₂ _&&_ (entriesIn-has l c h) (file-has c h) ∙ and-comm (isIn c l) (isFile c)
-      ∙ sym (filesIn-members l c))
+    inter-has (entriesIn l) 0xFFFF_FFFF_FF00_0000 c ∙ ap₂ _&&_ (entriesIn-has l c h) (file-has c h) ∙ and-comm (isIn c l) (isFile c)
+    ∙ sym (filesIn-members l c))
 
 process-has : (c : ℕ) → c < 64 → has 0xFF_FF00 c ≡ isProcess c
 unfolding those thoseFrom bit isProcess
