@@ -1,4 +1,5 @@
 // The descriptors of a process: 32 in a row.
+use crate::Tracker;
 use crate::lookups::file_set;
 use crate::numbers::Process;
 ghost use mathlib.Core.Path.{_≡_};
@@ -15,7 +16,7 @@ pub fn close_block(descriptors: &mut [u8; 512], p: Process)
     let entries: &mut [u8] = descriptors;
     let at = 32 * (p.0 % 16) as usize;
     for d in 0usize..32 {
-        entries[at + d] = 255;
+        entries[at + d] = Tracker::CLOSED;
     }
 }
 

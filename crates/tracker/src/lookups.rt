@@ -129,7 +129,7 @@ fn entries_in(table: &[u8]) -> u64
 pub fn files_in(table: &[u8]) -> u64
     ensures { λ r. ⌜ r ≡ filesIn (now (table .entry)) ⌝ }
 {
-    entries_in(table) & 0xFFFF_FFFF_FF00_0000
+    entries_in(table) & Tracker::FILES
 }
 
 // The containers in use.
@@ -142,8 +142,7 @@ pub fn used_set(
 ) -> u64
     ensures { λ r. ⌜ r ≡ usedSet (tables live (now (feeders .entry)) (now (fed .entry)) (now (descriptors .entry)) (now (names .entry))) ⌝ }
 {
-    let files = 0xFFFF_FFFF_FF00_0000u64;
-    let mapped = (union_of(feeders) | union_of(fed)) & files;
+    let mapped = (union_of(feeders) | union_of(fed)) & Tracker::FILES;
     let led = files_in(names) | files_in(descriptors);
     (live % 65536) * 256 | 0xFF | mapped | led
 }
