@@ -5,7 +5,8 @@ use mathlib.Core.Option.{Option}
 use lib.ListN.{getD}
 use Rattle.flow.specs.Box.{State, fresh}
 use Rattle.flow.specs.Calls.{Call}
-use Rattle.tracker.specs.Worked.{worked, callFrom}
+use Rattle.flow.specs.Records.{callFrom}
+use Rattle.tracker.specs.Worked.{worked}
 
 -- the call whose first byte is at i
 abbrev pub callAt : List ℕ → ℕ → Option Call

@@ -2,6 +2,7 @@
 // left over is ignored. It writes a line for each call, 0 or the refusal's number; then each container's items as a number; then for each
 // item how many containers hold it, and which.
 ghost use mathlib.Core.Path.{_≡_};
+ghost use mathlib.Core.List.{[]};
 ghost use Prim.Native.Nat.{_/_};
 ghost use lib.ListN.{length};
 ghost use Rattle.tracker.specs.View.{view};
@@ -66,7 +67,7 @@ fn answer(reply: Reply) -> u64 {
 
 // Runs the calls, with a line for each, and answers the tracker after them.
 fn run(calls: &[u8]) -> Tracker
-    ensures { λ r. ⌜ view r ≡ afterCalls (length (now (calls .entry)) / 5) (now (calls .entry)) ⌝ }
+    ensures { λ r. ⌜ view r [] ≡ afterCalls (length (now (calls .entry)) / 5) (now (calls .entry)) ⌝ }
 {
     let mut t = Tracker::new();
     for i in 0..calls.len() / 5 {

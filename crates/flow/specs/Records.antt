@@ -87,6 +87,10 @@ unfoldable pub callIn : List ℕ → Option Kind → Option Call
 callIn v none = none
 callIn v (some k) = some (record { kind = k; process = byteAt v 1; a = byteAt v 2; b = byteAt v 3; c = byteAt v 4 })
 
+-- the call of five bytes, if its kind is known
+unfoldable pub callFrom : ℕ → ℕ → ℕ → ℕ → ℕ → Option Call
+callFrom kind p a b c = callIn (kind ∷ p ∷ a ∷ b ∷ c ∷ []) (kindOf kind)
+
 -- the call in a whole record with a call's tag and length, if its kind is known
 unfoldable pub callOf : List ℕ → Option Call
 callOf bytes =

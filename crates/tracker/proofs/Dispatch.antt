@@ -9,9 +9,9 @@ use lib.ListN.{length, List·getD-eq-default}
 use Rattle.flow.specs.Tables.{firstThat}
 use Rattle.flow.specs.Box.{State}
 use Rattle.flow.specs.Calls.{start, openName, create, pipe, device, dup, close, read, write, truncate, mapRead, mapBoth, unmap, unlink, rename, link, fork, exit, label, Call}
-use Rattle.flow.specs.Records.{byteAt, kinds, kindOf, callIn}
+use Rattle.flow.specs.Records.{byteAt, kinds, kindOf, callIn, callFrom}
 use Rattle.flow.specs.Refusals.{callTests}
-use Rattle.tracker.specs.Worked.{Worked, stateBy, worked, callFrom, call, done}
+use Rattle.tracker.specs.Worked.{Worked, stateBy, worked, call, done}
 
 pub known-start : (p a b c : ℕ) → callFrom 1 p a b c ≡ some (call start p a b c)
 unfolding callFrom callIn kindOf kinds byteAt

@@ -9,3 +9,4 @@ pub mod Tests
 pub mod CallAnswers
 pub mod Holders
 pub mod Dispatch
+pub mod Gifts

@@ -2,12 +2,11 @@
 use Prim.Native.Nat.{ℕ}
 use mathlib.Core.Path.{_≡_}
 use mathlib.Core.Bool.{Bool, true, false}
-use mathlib.Core.List.{List, [], _∷_}
+use mathlib.Core.List.{List}
 use mathlib.Core.Option.{Option, none, some}
 use Rattle.flow.specs.Tables.{firstThat}
 use Rattle.flow.specs.Box.{Rule, State}
 use Rattle.flow.specs.Calls.{Kind, Call, change, after}
-use Rattle.flow.specs.Records.{kindOf, callIn}
 use Rattle.flow.specs.Refusals.{callTests}
 
 -- the number of the refusal, 0 where there is none, and the state afterwards
@@ -23,10 +22,6 @@ stateBy s (some q) none = record { number = 0; state = after s (change s q) }
 -- the tests of document 01's table decide; a call that none holds of makes its change
 unfoldable pub worked : State → Option Call → Worked
 worked s q = stateBy s q (firstThat (callTests s q))
-
--- the call of five bytes
-unfoldable pub callFrom : ℕ → ℕ → ℕ → ℕ → ℕ → Option Call
-callFrom kind p a b c = callIn (kind ∷ p ∷ a ∷ b ∷ c ∷ []) (kindOf kind)
 
 abbrev pub call : Kind → ℕ → ℕ → ℕ → ℕ → Call
 call kind p a b c = record { kind = kind; process = p; a = a; b = b; c = c }

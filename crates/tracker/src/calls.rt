@@ -28,8 +28,9 @@ use crate::spread::give;
 use crate::spread::reach;
 ghost use mathlib.Core.Option.{some};
 ghost use Rattle.flow.specs.Calls.{start, openName, create, pipe, device, dup, close, read, write, truncate, mapRead, mapBoth, unmap, unlink, rename, link, fork, exit, label};
+ghost use Rattle.flow.specs.Records.{callFrom};
 ghost use Rattle.tracker.specs.View.{state};
-ghost use Rattle.tracker.specs.Worked.{call, callFrom, Works};
+ghost use Rattle.tracker.specs.Worked.{call, Works};
 
 // As slices the lent arrays have their lengths, which the proofs use. Nothing is done.
 fn sizes(items: &[u64], feeders: &[u64], fed: &[u64], descriptors: &[u8], names: &[u8]) {}

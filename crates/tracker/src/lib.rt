@@ -11,16 +11,26 @@ mod release;
 mod spread;
 
 ghost use mathlib.Core.Path.{_≡_};
-ghost use Rattle.flow.specs.Box.{fresh};
-ghost use Rattle.flow.specs.Queries.{itemsQuery};
+ghost use mathlib.Core.List.{List, []};
+ghost use Prim.Native.Nat.{_%_};
+ghost use Rattle.flow.specs.Tables.{table};
+ghost use Rattle.flow.specs.Box.{itemCount, own, Rule, fresh};
+ghost use Rattle.flow.specs.Links.{used};
+ghost use Rattle.flow.specs.Calls.{gift, after};
+ghost use Rattle.flow.specs.Records.{callFrom};
+ghost use Rattle.flow.specs.Queries.{itemsQuery, holders};
 ghost use Rattle.tracker.specs.View.{view};
 ghost use Rattle.tracker.specs.Replies.{replyOf, Answered};
 ghost use Rattle.tracker.specs.Calling.{Called as CalledRight};
-ghost use Rattle.tracker.specs.Worked.{callFrom};
 use calls::call_in;
+use cells::items_at;
+use numbers::Container;
+use numbers::Process;
+use spread::give;
+use spread::reach;
 use queries::Reply;
 
-// The state by value. The rules have their place in it: four bytes (tag, item, action, substitute) and a set each.
+// The state by value. The rules are kept by the layer above.
 pub struct Tracker {
     live: u64,
     items: [u64; 64],
@@ -28,9 +38,6 @@ pub struct Tracker {
     fed: [u64; 16],
     descriptors: [u8; 512],
     names: [u8; 128],
-    sets: [u64; 32],
-    fields: [u8; 128],
-    loaded: u8,
 }
 
 // What a call gets here: its change is made, or it is refused with a number.
@@ -53,8 +60,6 @@ impl Tracker {
 
     pub const NAMES: usize = 128;
 
-    pub const RULES: usize = 32;
-
     pub const CLOSED: u8 = 255;
 
     // The set of all files and pipes, 24 to 63.
@@ -62,7 +67,7 @@ impl Tracker {
 
     // A fresh tracker: every descriptor closed, every name unbound, nothing else.
     pub fn new() -> Tracker
-        ensures { λ r. ⌜ view r ≡ fresh ⌝ }
+        ensures { λ r. ⌜ view r [] ≡ fresh ⌝ }
     {
         Tracker {
             live: 0,
@@ -71,15 +76,12 @@ impl Tracker {
             fed: [0u64; 16],
             descriptors: [Tracker::CLOSED; 512],
             names: [Tracker::CLOSED; 128],
-            sets: [0u64; 32],
-            fields: [0u8; 128],
-            loaded: 0,
         }
     }
 
     // The items of container c.
     pub fn items(self, c: u8) -> Reply
-        ensures { λ r. ⌜ replyOf r ≡ itemsQuery (view self) c ⌝ }
+        ensures { λ r. ⌜ ((rules : List Rule) → replyOf r ≡ itemsQuery (view self rules) c) ⌝ }
     {
         let items = self.items;
         queries::items_in(&items, c)
@@ -87,10 +89,36 @@ impl Tracker {
 
     // The containers that hold item i, at the front of `out`, and how many they are. A refusal leaves `out` as it was.
     pub fn holders(self, i: u8, out: &mut [u16]) -> Reply
-        ensures { λ r. ⌜ Answered (view self) i (now (out .entry)) r (now (out .exit)) ⌝ }
+        ensures { λ r. ⌜ ((rules : List Rule) → Answered (view self rules) i (now (out .entry)) r (now (out .exit))) ⌝ }
     {
         let held = self.items;
         queries::holders_in(&held, i, out)
+    }
+
+    // Whether container c is in use.
+    pub fn in_use(self, c: Container) -> bool
+        ensures { λ r. ⌜ ((rules : List Rule) → r ≡ used (view self rules) (c .0 % 64)) ⌝ }
+    {
+        let feeders = self.feeders;
+        let fed = self.fed;
+        let descriptors = self.descriptors;
+        let names = self.names;
+        lookups::in_use(self.live, &feeders, &fed, &descriptors, &names, c)
+    }
+
+    // What process p holds is given to container c: a write to c, whether or not a descriptor leads there.
+    pub fn write_to(self, p: Process, c: Container) -> Tracker
+        ensures { λ r. ⌜ ((rules : List Rule) → view r rules ≡ after (view self rules) (record { tables = view self rules; flow = gift (own (p .0 % 16)) (c .0 % 64) })) ⌝ }
+    {
+        let mut items = self.items;
+        let feeders = self.feeders;
+        let fed = self.fed;
+        let x = items_at(&items, Container(8 + p.0 % 16));
+        let r = reach(&feeders, &fed, c);
+        give(&mut items, r, x);
+        let mut after = self;
+        after.items = items;
+        after
     }
 
     // A call of any five bytes: kind, process, a, b, c.

@@ -2,6 +2,7 @@
 use Prim.Native.Nat.{ℕ, _≤_, _-_, _/_}
 use native.Mathlib.Omega.{arith}
 use mathlib.Core.Path.{_≡_, sym, ap, _∙_}
+use mathlib.Core.List.{[]}
 use lib.ListN.{length}
 use borrow.Author.Needs.{needs}
 use Rattle.tracker.specs.View.{view}
@@ -11,7 +12,7 @@ use Rattle.callrun.proofs.run.Statement.{statement}
 use Rattle.callrun.proofs.run.Tie as tie
 
 abbrev Inv-loop : tie.InvT-loop
-Inv-loop calls t₀ i₀ i-end t i = (i ≤ i-end) × (i-end ≡ length calls / 5) × (view t ≡ afterCalls i calls)
+Inv-loop calls t₀ i₀ i-end t i = (i ≤ i-end) × (i-end ≡ length calls / 5) × (view t [] ≡ afterCalls i calls)
 
 abbrev μ-loop : tie.MeasureT-loop
 μ-loop calls t₀ i₀ i-end t i = i-end - i
@@ -72,7 +73,7 @@ loop-less c = search needs
 
 loop-again : tie.Need-loop-again Inv-loop μ-loop
 loop-again c =
-    (search needs, search needs, one-more _ _ _ _ _ (c .before .before .before .before .before .before .before .before .before .before .loop .inv .2) (c .before .before .before .call .ensures .worked-out))
+    (search needs, search needs, one-more _ _ _ _ (c .before .before .before .before .before .before .before .before .before .before .loop .inv .2) (c .before .before .before .call .ensures .worked-out []))
 
 returns : tie.Need-returns Inv-loop μ-loop
 returns c = c .before .loop .inv .2 ∙ ap (λ (n : ℕ). afterCalls n (c .before .before .before .before .args .calls .now)) (omega arith)

@@ -19,8 +19,8 @@ same-length c = search needs
 returns : tie.Need-returns
 unfolding view holders holds itemsOf
 returns c =
-    let a = c .before .before .before .before .before .before .before .args in
-    answered-by (state 0 (a .self .items) [] [] [] [] []) (view (a .self)) (a .i) refl (c .before .before .holders-in .ensures)
+    λ rules. let a = c .before .before .before .before .before .before .before .args in
+    answered-by (state 0 (a .self .items) [] [] [] [] []) (view (a .self) rules) (a .i) refl (c .before .before .holders-in .ensures)
 
 pub holders-spec : {M : Type 1} → statement M
 holders-spec = tie.close (tie.spec holders-in-requires same-length returns)

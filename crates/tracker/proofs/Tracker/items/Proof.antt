@@ -11,7 +11,7 @@ items-in-requires c κs = search needs
 
 returns : tie.Need-returns
 unfolding itemsQuery itemsOf view
-returns c = c .items-in .ensures
+returns c = λ rules. c .items-in .ensures
 
 pub items-spec : {M : Type 1} → statement M
 items-spec = tie.close (tie.spec items-in-requires returns)

@@ -1,13 +1,12 @@
 -- `Tracker::new` makes the fresh state.
 use mathlib.Core.Path.{refl}
-use Rattle.flow.specs.Tables.{tableFrom, table}
 use Rattle.flow.specs.Box.{fresh}
-use Rattle.tracker.specs.View.{rulesOf, view}
+use Rattle.tracker.specs.View.{view}
 use Rattle.tracker.proofs.Tracker.new.Statement.{statement}
 use Rattle.tracker.proofs.Tracker.new.Tie as tie
 
 returns : tie.Need-returns
-unfolding view fresh rulesOf table tableFrom
+unfolding view fresh
 returns c = refl
 
 pub new-spec : {M : Type 1} → statement M
