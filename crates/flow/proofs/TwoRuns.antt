@@ -196,14 +196,18 @@ unfolding stepState
 step-forbids s (entry bytes) c i k f = outcome-forbids s (callOf bytes) (outcome s bytes) c i (sound s k bytes) f
 step-forbids s memory c i k f = f
 
-barred-later : (chosen : ℕ → Bool) (steps : List Step) (c j k : ℕ) → j ≤ k → Barred chosen (stateAt steps j) c → Barred chosen (stateAt steps k) c
-unfolding Barred stateAt
-barred-later chosen steps c j zero l b = let e : j ≡ 0 = omega arith in rw e at b
-barred-later chosen steps c j (suc k) l b = go (ℕ-discrete j (suc k)) (λ m. barred-later chosen steps c j k m b)
+pub forbidden-later : (steps : List Step) (c i j k : ℕ) → j ≤ k → Forbidden c i (stateAt steps j .rules) → Forbidden c i (stateAt steps k .rules)
+unfolding stateAt
+forbidden-later steps c i j zero l f = let e : j ≡ 0 = omega arith in rw e at f
+forbidden-later steps c i j (suc k) l f = go (ℕ-discrete j (suc k)) (λ m. forbidden-later steps c i j k m f)
   where
-    go : Dec (j ≡ suc k) → (j ≤ k → Barred chosen (stateAt steps k) c) → Barred chosen (stateAt steps (suc k)) c
-    go (yes e) f = rw e at b
-    go (no e) f = λ i h m. step-forbids (stateAt steps k) (stepAt steps k) c i (state-kept steps k) (f (omega arith) i h m)
+    go : Dec (j ≡ suc k) → (j ≤ k → Forbidden c i (stateAt steps k .rules)) → Forbidden c i (stateAt steps (suc k) .rules)
+    go (yes e) g = rw e at f
+    go (no e) g = step-forbids (stateAt steps k) (stepAt steps k) c i (state-kept steps k) (g (omega arith))
+
+barred-later : (chosen : ℕ → Bool) (steps : List Step) (c j k : ℕ) → j ≤ k → Barred chosen (stateAt steps j) c → Barred chosen (stateAt steps k) c
+unfolding Barred
+barred-later chosen steps c j k l b i h m = forbidden-later steps c i j k l (b i h m)
 
 unbroken-forbids : (s : State) (d : Condition) (c i : ℕ) → breaks s d c ≡ false → forbids d c i ≡ true → holds s c i ≡ false
 unfolding breaks forbids

@@ -10,3 +10,4 @@ pub mod CallAnswers
 pub mod Holders
 pub mod Dispatch
 pub mod Gifts
+pub mod Views

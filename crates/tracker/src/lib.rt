@@ -26,9 +26,9 @@ use calls::call_in;
 use cells::items_at;
 use numbers::Container;
 use numbers::Process;
+use queries::Reply;
 use spread::give;
 use spread::reach;
-use queries::Reply;
 
 // The state by value. The rules are kept by the layer above.
 pub struct Tracker {
@@ -93,6 +93,14 @@ impl Tracker {
     {
         let held = self.items;
         queries::holders_in(&held, i, out)
+    }
+
+    // For each item the set of the containers that hold it.
+    pub fn holders_by_item(self) -> [u64; 64]
+        ensures { λ r. ⌜ ((rules : List Rule) → r ≡ table itemCount (λ i. holders (view self rules) i)) ⌝ }
+    {
+        let items = self.items;
+        transpose::transpose(items)
     }
 
     // Whether container c is in use.

@@ -16,18 +16,18 @@ call-in-requires c κs = search needs
 returns : tie.Need-returns
 unfolding view refusalOf
 returns c = record {
-      refusal = λ rules. refusal-some _ _ _ _ (c .if1 .taken) (c .before .call-in .ensures rules);
-      worked-out = λ rules. state-kept _ _ _ _ (c .if1 .taken) (c .before .call-in .ensures rules);
-      kept = λ n e. refl
-    }
+  refusal = λ rules. refusal-some _ _ _ _ (c .if1 .taken) (c .before .call-in .ensures rules);
+  worked-out = λ rules. state-kept _ _ _ _ (c .if1 .taken) (c .before .call-in .ensures rules);
+  kept = λ n e. refl;
+}
 
 returns-2 : tie.Need-returns-2
 unfolding view refusalOf
 returns-2 c = record {
-      refusal = λ rules. refusal-none _ _ _ _ (c .if1 .left) (c .before .call-in .ensures rules);
-      worked-out = λ rules. state-done _ _ _ _ (c .before .call-in .ensures rules);
-      kept = λ n e. cc
-    }
+  refusal = λ rules. refusal-none _ _ _ _ (c .if1 .left) (c .before .call-in .ensures rules);
+  worked-out = λ rules. state-done _ _ _ _ (c .before .call-in .ensures rules);
+  kept = λ n e. cc;
+}
 
 pub call-spec : {M : Type 1} → statement M
 call-spec = tie.close (tie.spec call-in-requires returns returns-2)

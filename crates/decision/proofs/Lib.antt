@@ -1,0 +1,5 @@
+pub mod JudgingLaws
+pub mod AnswerLaws
+pub mod VerdictLaws
+pub mod LoadLaws
+pub mod TwoRuns

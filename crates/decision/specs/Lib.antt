@@ -1,0 +1,6 @@
+pub mod Judging
+pub mod Loading
+pub mod View
+pub mod Answers
+pub mod Logs
+pub mod TwoRuns

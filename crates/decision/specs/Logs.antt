@@ -1,0 +1,41 @@
+-- Document 01, What a record gets: a whole log. Each answer goes into a lent slice as one number.
+use Prim.Native.Nat.{ℕ, _+_, _*_}
+use mathlib.Core.Path.{_≡_}
+use mathlib.Core.Bool.{Bool, true, false}
+use mathlib.Core.List.{List, [], _∷_, _++_}
+use lib.Dec.{leb}
+use lib.ListN.{length, drop}
+use Rattle.flow.specs.Verdicts.{Answer as Word, refused, rule, allow, inhibit, modify, runLog}
+use Rattle.flow.specs.Queries.{Reply as Answer, refuse, result}
+use Rattle.tracker.specs.Replies.{replyOf}
+use Rattle.decision.specs.declared.Monitor.{Monitor}
+use Rattle.decision.specs.declared.Ran.{Ran}
+use Rattle.decision.specs.View.{view}
+
+-- the code of an answer: its word, then its numbers, each a byte from the lowest on
+unfoldable pub codeOf : Word → ℕ
+codeOf allow = 0
+codeOf (inhibit n) = 1 + 256 * n
+codeOf (modify n c) = 2 + 256 * n + 65536 * c
+codeOf (rule n) = 3 + 256 * n
+codeOf (refused n) = 4 + 256 * n
+
+unfoldable pub codesOf : List Word → List ℕ
+codesOf [] = []
+codesOf (a ∷ as) = codeOf a ∷ codesOf as
+
+-- the slice has room for one code a record
+unfoldable pub roomFor : Monitor → List ℕ → List ℕ → Bool
+roomFor m log slice = leb (length (runLog (view m) log .answers)) (length slice)
+
+-- The log on the monitor m: the number of its answers, their codes at the front of the slice, the rest of which keeps its numbers, and the
+-- state after all records. 13 where the slice is shorter; then nothing changes.
+unfoldable pub RunsBy : Bool → Monitor → List ℕ → List ℕ → Ran → List ℕ → Type 0
+RunsBy true m log before r after =
+    (replyOf (r .reply) ≡ result (length (runLog (view m) log .answers)))
+    × (view (r .monitor) ≡ runLog (view m) log .state)
+    × (after ≡ codesOf (runLog (view m) log .answers) ++ drop (length (runLog (view m) log .answers)) before)
+RunsBy false m log before r after = (replyOf (r .reply) ≡ refuse 13) × (r .monitor ≡ m) × (after ≡ before)
+
+unfoldable pub Runs : Monitor → List ℕ → List ℕ → Ran → List ℕ → Type 0
+Runs m log before r after = RunsBy (roomFor m log before) m log before r after

@@ -1,0 +1,34 @@
+// A whole log: how many records it has, and answers as numbers.
+use crate::Answer;
+use records::extent;
+ghost use mathlib.Core.Path.{_≡_};
+ghost use lib.ListN.{length};
+ghost use Rattle.flow.specs.Records.{recordsOf};
+ghost use Rattle.decision.specs.Answers.{wordOf};
+ghost use Rattle.decision.specs.Logs.{codeOf};
+
+// The number of records in a log.
+pub fn records_in(log: &[u8]) -> usize
+    ensures { λ r. ⌜ r ≡ length (recordsOf (now (log .entry))) ⌝ }
+{
+    let mut at = 0usize;
+    let mut n = 0usize;
+    while at < log.len() {
+        at = at + extent(&log[at..]);
+        n += 1;
+    }
+    n
+}
+
+// An answer as a number.
+pub fn code(answer: Answer) -> u32
+    ensures { λ r. ⌜ r ≡ codeOf (wordOf answer) ⌝ }
+{
+    match answer {
+        Answer::Allow => 0,
+        Answer::Inhibit(n) => 1 + 256 * (n as u32),
+        Answer::Modify(n, c) => 2 + 256 * (n as u32) + 65536 * (c as u32),
+        Answer::Loaded(n) => 3 + 256 * (n as u32),
+        Answer::Refused(n) => 4 + 256 * (n as u32),
+    }
+}

@@ -1,0 +1,106 @@
+-- What a record's bytes read as, once its frame is known: by its tag, field by field.
+use Prim.Native.Nat.{ℕ, zero, suc, _+_, _≤_}
+use native.Mathlib.Omega.{arith}
+use mathlib.Core.Path.{_≡_, refl, sym, ap, _∙_}
+use mathlib.Core.Bool.{Bool, true, false, not, _&&_}
+use mathlib.Core.List.{List, [], _∷_}
+use mathlib.Core.Option.{none}
+use lib.Dec.{eqb}
+use lib.ListN.{getD, length, take, drop}
+use lib.Seq.{drop-cons}
+use borrow.Author.Tests.{ltb-false, not-false, eqb-true, eqb-false, eq-eqb, ne-eqb}
+use Rattle.flow.specs.Tables.{tableFrom, _⇒_, firstThat}
+use Rattle.flow.specs.Box.{forbid, separate, confine, Rule}
+use Rattle.flow.specs.Records.{byteAt, tagOf, callTag, forbidTag, separateTag, statedLength, recordLength, valueOf, cutShort, knownTag, tagLength, wrongLength, kindOf, callIn, callFrom, callOf, numberFrom, setIn, ruleWith, ruleOf}
+use Rattle.flow.proofs.Bools.{chosen-l, chosen-r}
+use Rattle.flow.proofs.TableLaws.{AllFalse, all-false}
+use Rattle.records.specs.Reading.{unreadable, aCall, aRule, frameTests, readingBy, reading, refusalOf}
+
+-- the three tests, each by its value
+pub framed : (bytes : List ℕ) (x y z : Bool) → cutShort bytes ≡ x → knownTag (tagOf bytes) ≡ y → wrongLength bytes ≡ z
+    → firstThat (frameTests bytes) ≡ firstThat ((x ⇒ 1) ∷ (not y ⇒ 2) ∷ (z ⇒ 3) ∷ [])
+unfolding frameTests
+framed bytes x y z e f g = rw (e, f, g)
+
+-- the stated length against the one that is wanted
+pub tested : (bytes : List ℕ) (stated tag wanted : ℕ) → stated ≡ statedLength bytes → tag ≡ tagOf bytes → wanted ≡ tagLength tag → wrongLength bytes ≡ not (eqb stated wanted)
+unfolding wrongLength
+tested bytes stated tag wanted e f g = rw (g, f, e)
+
+-- a tag that is neither a call's nor a separation's
+pub length-other : (t : ℕ) → (t ≡ callTag → ⊥) → (t ≡ separateTag → ⊥) → 11 ≡ tagLength t
+unfolding tagLength
+length-other t h k = sym (chosen-r (eqb t callTag) 5 _ (ne-eqb t callTag h) ∙ chosen-r (eqb t separateTag) 4 11 (ne-eqb t separateTag k))
+
+-- n elements of a list, from k on
+part : (n k : ℕ) (l : List ℕ) → k + n ≤ length l → take n (drop k l) ≡ tableFrom n k (byteAt l)
+unfolding tableFrom byteAt
+part zero k l h = refl
+part (suc n) k l h = rw (drop-cons l k 0 (omega arith)) (ap (λ (t : List ℕ). getD l k 0 ∷ t) (part n (suc k) l (omega arith)))
+
+-- a refusal's number is read as that refusal
+pub unread : (bytes : List ℕ) (n : ℕ) → (n ≡ 0 → ⊥) → refusalOf n ≡ firstThat (frameTests bytes) → unreadable n ≡ reading bytes
+unfolding refusalOf reading readingBy
+unread bytes zero h e = absurd (h refl)
+unread bytes (suc n) h e = rw (← e)
+
+-- ---- a record that none of the three tests refuses
+module _ (bytes : List ℕ) (whole : firstThat (frameTests bytes) ≡ none) where
+  -- it isn't cut short, and its length is its tag's
+  frame : (cutShort bytes ≡ false) × (wrongLength bytes ≡ false)
+  unfolding frameTests AllFalse
+  frame = let h = all-false (frameTests bytes) whole in (h .0, h .1 .1 .0)
+
+  -- its value is the bytes after the header
+  value : (n : ℕ) → n ≡ tagLength (tagOf bytes) → valueOf bytes ≡ tableFrom n 3 (byteAt bytes)
+  unfolding wrongLength valueOf cutShort recordLength
+  value n e =
+      let stated : statedLength bytes ≡ n = eqb-true _ _ (not-false _ (frame .1)) ∙ sym e in
+      let fits : 3 + statedLength bytes ≤ length bytes = ltb-false _ _ (frame .0) in
+      rw stated (part n 3 bytes (omega arith))
+
+  reads-call : eqb (tagOf bytes) callTag ≡ true → reading bytes ≡ aCall (callOf bytes)
+  unfolding reading readingBy
+  reads-call e = ap (readingBy bytes) whole ∙ chosen-l (eqb (tagOf bytes) callTag) _ _ e
+
+  reads-rule : eqb (tagOf bytes) callTag ≡ false → reading bytes ≡ aRule (ruleOf bytes)
+  unfolding reading readingBy
+  reads-rule e = ap (readingBy bytes) whole ∙ chosen-r (eqb (tagOf bytes) callTag) _ _ e
+
+  pub call-read : tagOf bytes ≡ callTag → reading bytes ≡ aCall (callFrom (byteAt bytes 3) (byteAt bytes 4) (byteAt bytes 5) (byteAt bytes 6) (byteAt bytes 7))
+  unfolding callOf callFrom tableFrom tagLength byteAt
+  call-read e =
+      let is : eqb (tagOf bytes) callTag ≡ true = eq-eqb (tagOf bytes) callTag e in
+      reads-call is
+      ∙ ap aCall
+      (chosen-l (eqb (tagOf bytes) callTag && not (cutShort bytes) && not (wrongLength bytes)) _ none (rw (is, frame .0, frame .1))
+      ∙ ap (λ (v : List ℕ). callIn v (kindOf (byteAt v 0))) (value 5 (rw e)))
+
+  -- a rule, once its tag is told
+  rule-read : (n : ℕ) (f : List ℕ → Rule) → (tagOf bytes ≡ callTag → ⊥) → n ≡ tagLength (tagOf bytes) → ruleOf bytes ≡ f (valueOf bytes)
+      → reading bytes ≡ aRule (f (tableFrom n 3 (byteAt bytes)))
+  rule-read n f h l e = reads-rule (ne-eqb (tagOf bytes) callTag h) ∙ ap aRule (e ∙ ap f (value n l))
+
+  -- a tag that isn't a call's
+  other : (n : ℕ) → tagOf bytes ≡ n → eqb n callTag ≡ false → tagOf bytes ≡ callTag → ⊥
+  other n e d q = eqb-false n callTag d (sym e ∙ q)
+
+  pub forbid-read : tagOf bytes ≡ forbidTag
+      → reading bytes ≡ aRule (record { condition = forbid (byteAt bytes 3) (numberFrom 0 (tableFrom 8 4 (byteAt bytes))); action = byteAt bytes 12; substitute = byteAt bytes 13 })
+  unfolding ruleOf setIn ruleWith tableFrom tagLength byteAt
+  forbid-read e =
+      rule-read 11 (λ v. ruleWith (forbid (byteAt v 0) (setIn v)) v 9) (other forbidTag e refl) (rw e) (chosen-l (eqb (tagOf bytes) forbidTag) _ _ (eq-eqb (tagOf bytes) forbidTag e))
+
+  pub separate-read : tagOf bytes ≡ separateTag
+      → reading bytes ≡ aRule (record { condition = separate (byteAt bytes 3) (byteAt bytes 4); action = byteAt bytes 5; substitute = byteAt bytes 6 })
+  unfolding ruleOf ruleWith tableFrom tagLength byteAt
+  separate-read e =
+      rule-read 4 (λ v. ruleWith (separate (byteAt v 0) (byteAt v 1)) v 2) (other separateTag e refl) (rw e)
+      (chosen-r (eqb (tagOf bytes) forbidTag) _ _ (rw e) ∙ chosen-l (eqb (tagOf bytes) separateTag) _ _ (eq-eqb (tagOf bytes) separateTag e))
+
+  pub confine-read : (tagOf bytes ≡ callTag → ⊥) → (tagOf bytes ≡ forbidTag → ⊥) → (tagOf bytes ≡ separateTag → ⊥)
+      → reading bytes ≡ aRule (record { condition = confine (byteAt bytes 3) (numberFrom 0 (tableFrom 8 4 (byteAt bytes))); action = byteAt bytes 12; substitute = byteAt bytes 13 })
+  unfolding ruleOf setIn ruleWith tableFrom byteAt
+  confine-read h k m =
+      rule-read 11 (λ v. ruleWith (confine (byteAt v 0) (setIn v)) v 9) h (length-other (tagOf bytes) h m)
+      (chosen-r (eqb (tagOf bytes) forbidTag) _ _ (ne-eqb (tagOf bytes) forbidTag k) ∙ chosen-r (eqb (tagOf bytes) separateTag) _ _ (ne-eqb (tagOf bytes) separateTag m))

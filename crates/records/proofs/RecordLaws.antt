@@ -1,0 +1,161 @@
+-- What a record gets goes by its reading alone, and a log goes record by record.
+use Prim.Native.Nat.{ℕ, zero, suc, _+_, _*_, _≤_, _<_}
+use native.Mathlib.Nat.{le-refl}
+use native.Mathlib.Omega.{arith}
+use mathlib.Core.Path.{_≡_, refl, sym, ap, ap₂, _∙_}
+use mathlib.Core.Bool.{Bool, true, false, not, _&&_}
+use mathlib.Core.List.{List, [], _∷_}
+use mathlib.Core.Option.{Option, none, some}
+use lib.Dec.{eqb}
+use lib.ListN.{length, take, drop, length-drop}
+use lib.Seq.{take-length, drop-length, getD-take, length-take-le, take-add, drop-at, take-take}
+use borrow.Author.Tests.{ltb-false, le-ltb}
+use Rattle.flow.specs.Tables.{Test, _⇒_, firstThat}
+use Rattle.flow.specs.Box.{State}
+use Rattle.flow.specs.Calls.{Call}
+use Rattle.flow.specs.Records.{byteAt, tagOf, callTag, statedLength, recordLength, valueOf, cutShort, knownTag, wrongLength, callOf, ruleOf, recordsIn, recordsOf}
+use Rattle.flow.specs.Refusals.{callTests, ruleTests, testsByTag, recordTests, refusal}
+use Rattle.flow.specs.Verdicts.{accepted, outcomeBy, outcome, answer, next, answerAll, runLog}
+use Rattle.flow.proofs.Bools.{choice, choices, chosen-r}
+use Rattle.records.specs.Reading.{Reading, aCall, aRule, frameTests, readingBy, reading, extentOf, outcomeOfCall, outcomeOfRule, outcomeOf}
+use Rattle.records.proofs.Frames.{framed}
+
+-- ---- what a record gets
+module _ (s : State) (bytes : List ℕ) where
+  of-call : (q : Option Call) → callOf bytes ≡ q → outcomeBy s bytes (firstThat (callTests s q)) ≡ outcomeOf s (aCall q)
+  unfolding outcomeOf outcomeOfCall outcomeBy accepted callTests firstThat
+  of-call none e = refl
+  of-call (some q) e = by-test (firstThat (callTests s (some q)))
+    where
+      by-test : (o : Option ℕ) → outcomeBy s bytes o ≡ outcomeOfCall s (some q) o
+      by-test (some n) = refl
+      by-test none = ap (accepted s bytes) e
+
+  -- without a call's tag there is no call
+  of-rule : eqb (tagOf bytes) callTag ≡ false → (o : Option ℕ) → outcomeBy s bytes o ≡ outcomeOfRule s (ruleOf bytes) o
+  unfolding outcomeOfRule outcomeBy accepted callOf
+  of-rule e (some n) = refl
+  of-rule e none = ap (accepted s bytes) (chosen-r (eqb (tagOf bytes) callTag && not (cutShort bytes) && not (wrongLength bytes)) _ none (rw e refl))
+
+  by-tag : (b : Bool) → eqb (tagOf bytes) callTag ≡ b
+      → outcomeBy s bytes (firstThat (elim b as (λ z. List Test) [ true ↦ callTests s (callOf bytes) | false ↦ ruleTests s (ruleOf bytes) ]))
+      ≡ outcomeOf s (elim b as (λ z. Reading) [ true ↦ aCall (callOf bytes) | false ↦ aRule (ruleOf bytes) ])
+  unfolding outcomeOf
+  by-tag true e = of-call (callOf bytes) refl
+  by-tag false e = of-rule e (firstThat (ruleTests s (ruleOf bytes)))
+
+  by-frame : (x y z : Bool)
+      → outcomeBy s bytes (firstThat ((x ⇒ 1) ∷ (y ⇒ 2) ∷ (z ⇒ 3) ∷ testsByTag s bytes)) ≡ outcomeOf s (readingBy bytes (firstThat ((x ⇒ 1) ∷ (y ⇒ 2) ∷ (z ⇒ 3) ∷ [])))
+  unfolding firstThat outcomeBy outcomeOf readingBy testsByTag
+  by-frame true y z = refl
+  by-frame false true z = refl
+  by-frame false false true = refl
+  by-frame false false false = by-tag (eqb (tagOf bytes) callTag) refl
+
+  pub outcome-reading : outcome s bytes ≡ outcomeOf s (reading bytes)
+  unfolding outcome refusal recordTests reading frameTests
+  outcome-reading = by-frame (cutShort bytes) (not (knownTag (tagOf bytes))) (wrongLength bytes)
+
+-- ---- the length of the record at the front
+pub extent-positive : (bytes : List ℕ) → 0 < length bytes → 1 ≤ extentOf bytes
+unfolding extentOf recordLength
+extent-positive bytes h = choice (λ (e : ℕ). 1 ≤ e) (cutShort bytes) _ _ (λ x. h) (λ x. omega arith)
+
+pub extent-le : (bytes : List ℕ) → extentOf bytes ≤ length bytes
+unfolding extentOf cutShort
+extent-le bytes = choice (λ (e : ℕ). e ≤ length bytes) (cutShort bytes) _ _ (λ x. le-refl (length bytes)) (λ x. ltb-false (length bytes) (recordLength bytes) x)
+
+-- ---- the record at the front reads the same without what follows it
+-- a reading goes by the tag, the tests of the frame and the value
+by-parts : (t b : List ℕ) → tagOf t ≡ tagOf b → cutShort t ≡ cutShort b → wrongLength t ≡ wrongLength b → valueOf t ≡ valueOf b → reading t ≡ reading b
+unfolding reading readingBy frameTests callOf ruleOf
+by-parts t b e f g h = ap (readingBy t) (framed t _ _ _ f (ap knownTag e) g) ∙ by-test (firstThat (frameTests b))
+  where
+    by-test : (o : Option ℕ) → readingBy t o ≡ readingBy b o
+    by-test (some n) = refl
+    by-test none = cc
+
+module _ (bytes : List ℕ) (whole : cutShort bytes ≡ false) where
+  front : List ℕ
+  front = take (recordLength bytes) bytes
+
+  fits : recordLength bytes ≤ length bytes
+  unfolding cutShort
+  fits = ltb-false (length bytes) (recordLength bytes) whole
+
+  header : (i : ℕ) → i < 3 → byteAt front i ≡ byteAt bytes i
+  unfolding front byteAt recordLength
+  header i h = getD-take (recordLength bytes) bytes i 0 (omega arith)
+
+  stated : statedLength front ≡ statedLength bytes
+  unfolding statedLength
+  stated = ap₂ (λ (x y : ℕ). 256 * x + y) (header 1 (omega arith)) (header 2 (omega arith))
+
+  front-whole : cutShort front ≡ false
+  unfolding front cutShort recordLength
+  front-whole = le-ltb (length front) (recordLength front) (rw (stated, length-take-le (recordLength bytes) bytes fits) (le-refl (recordLength bytes)))
+
+  front-value : valueOf front ≡ valueOf bytes
+  unfolding front valueOf recordLength
+  front-value =
+      let n : ℕ = statedLength bytes in
+      rw (stated, take-add 3 n bytes, drop-at (take 3 bytes) (take n (drop 3 bytes)) 3 (length-take-le 3 bytes (let h : 3 + n ≤ length bytes = fits in omega arith)), take-take n n (drop 3 bytes) (le-refl n))
+
+  reading-front : reading front ≡ reading bytes
+  unfolding tagOf wrongLength
+  reading-front = by-parts front bytes (header 0 (omega arith)) (front-whole ∙ sym whole) (rw (stated, header 0 (omega arith))) front-value
+
+pub reading-first : (bytes : List ℕ) → reading (take (extentOf bytes) bytes) ≡ reading bytes
+unfolding extentOf front
+reading-first bytes = choice (λ (e : ℕ). reading (take e bytes) ≡ reading bytes) (cutShort bytes) _ _ (λ x. ap reading (take-length bytes)) (reading-front bytes)
+
+-- what the record at the front gets
+pub outcome-first : (s : State) (bytes : List ℕ) → outcome s (take (extentOf bytes) bytes) ≡ outcomeOf s (reading bytes)
+outcome-first s bytes = outcome-reading s (take (extentOf bytes) bytes) ∙ ap (outcomeOf s) (reading-first bytes)
+
+-- ---- a log
+-- what follows a whole record is shorter
+shorter : (bytes : List ℕ) (n : ℕ) → length bytes ≤ suc n → length (drop (recordLength bytes) bytes) ≤ n
+unfolding recordLength
+shorter bytes n l = rw (length-drop (recordLength bytes) bytes) (omega arith)
+
+-- a log has no more records than bytes
+enough : (n m : ℕ) (bytes : List ℕ) → length bytes ≤ n → length bytes ≤ m → recordsIn n bytes ≡ recordsIn m bytes
+unfolding recordsIn
+enough zero zero [] h k = refl
+enough zero (suc m) [] h k = refl
+enough (suc n) zero [] h k = refl
+enough (suc n) (suc m) [] h k = refl
+enough zero m (b ∷ bs) h k = absurd (let z : ⊥ = omega arith in z)
+enough (suc n) zero (b ∷ bs) h k = absurd (let z : ⊥ = omega arith in z)
+enough (suc n) (suc m) (b ∷ bs) h k =
+    let bytes : List ℕ = b ∷ bs in
+    choices (cutShort bytes) _ _ _ _ (λ e. refl)
+    (λ e. ap (λ (rs : List (List ℕ)). take (recordLength bytes) bytes ∷ rs) (enough n m (drop (recordLength bytes) bytes) (shorter bytes n h) (shorter bytes m k)))
+
+-- the records of a log: the one at the front, and those of what follows it
+pub records-first : (bytes : List ℕ) → 0 < length bytes → recordsOf bytes ≡ take (extentOf bytes) bytes ∷ recordsOf (drop (extentOf bytes) bytes)
+unfolding extentOf recordsOf recordsIn
+records-first [] h = absurd (let z : ⊥ = omega arith in z)
+records-first (b ∷ bs) h = go (cutShort bytes)
+  where
+    bytes : List ℕ
+    bytes = b ∷ bs
+
+    go : (x : Bool) → _≡_ {A = List (List ℕ)} (elim x as (λ z. List (List ℕ)) [ true ↦ bytes ∷ [] | false ↦ take (recordLength bytes) bytes ∷ recordsIn (length bs) (drop (recordLength bytes) bytes) ])
+        (let e = elim x as (λ z. ℕ) [ true ↦ length bytes | false ↦ recordLength bytes ] in take e bytes ∷ recordsOf (drop e bytes))
+    go true = rw (take-length (b ∷ bs), drop-length (b ∷ bs))
+    go false = ap (λ (rs : List (List ℕ)). take (recordLength bytes) bytes ∷ rs) (enough (length bs) _ (drop (recordLength bytes) bytes) (shorter bytes (length bs) (le-refl _)) (le-refl _))
+
+-- no record, no answer
+pub log-empty : (s : State) → runLog s [] ≡ record { answers = []; state = s }
+unfolding runLog recordsOf recordsIn answerAll
+log-empty s = refl
+
+-- the first record gets its answer, and the rest of the log meets the state after it
+pub log-first : (s : State) (bytes : List ℕ) → 0 < length bytes
+    → (let first = take (extentOf bytes) bytes in
+    let rest = runLog (next s first) (drop (extentOf bytes) bytes) in
+    runLog s bytes ≡ record { answers = answer s first ∷ rest .answers; state = rest .state })
+unfolding runLog answerAll answer next
+log-first s bytes h = ap (answerAll s) (records-first bytes h)

@@ -1,0 +1,33 @@
+-- `extent` is the length of the record at the front.
+use mathlib.Core.Path.{sym, _∙_}
+use Rattle.flow.specs.Records.{cutShort, recordLength}
+use Rattle.flow.proofs.Bools.{chosen-l, chosen-r}
+use Rattle.records.specs.Reading.{extentOf}
+use borrow.Author.Needs.{needs}
+use Rattle.records.proofs.extent.Statement.{statement}
+use Rattle.records.proofs.extent.Tie as tie
+
+cut-short-requires : tie.Need-cut-short-requires
+cut-short-requires c κs = search needs
+
+stated-length-requires : tie.Need-stated-length-requires
+stated-length-requires c κs = search needs
+
+cast-result : tie.Need-cast-result
+cast-result c = search needs
+
+add-result : tie.Need-add-result
+add-result c = search needs
+
+returns : tie.Need-returns
+unfolding extentOf
+returns c = sym (chosen-l (cutShort _) _ _ (sym (c .before .cut-short .ensures) ∙ c .if1 .taken))
+
+returns-2 : tie.Need-returns-2
+unfolding extentOf recordLength
+returns-2 c = rw (c .stated-length .ensures) (sym (chosen-r (cutShort _) _ _ (sym (c .before .before .cut-short .ensures) ∙ c .before .if1 .left)))
+
+pub extent-spec : {M : Type 1} → statement M
+extent-spec =
+    tie.close
+    (tie.spec cut-short-requires stated-length-requires cast-result add-result returns returns-2)

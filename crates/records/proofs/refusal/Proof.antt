@@ -1,0 +1,68 @@
+-- `refusal` is the first of the three tests that holds.
+use mathlib.Core.Path.{_≡_, refl, sym, ap, _∙_}
+use mathlib.Core.Bool.{true, false, not}
+use lib.Dec.{eqb}
+use borrow.Author.Tests.{not-true, not-false, eq-eqb, ne-eqb}
+use Rattle.flow.specs.Tables.{firstThat}
+use Rattle.flow.specs.Records.{tagOf, cutShort, knownTag, wrongLength}
+use Rattle.records.specs.Reading.{refusalOf}
+use Rattle.records.proofs.Frames.{framed, tested}
+use borrow.Author.Needs.{needs}
+use Rattle.records.proofs.refusal.Statement.{statement}
+use Rattle.records.proofs.refusal.Tie as tie
+
+uncut : (c : tie.Else1) → cutShort (c .before .before .before .args .bytes .now) ≡ false
+uncut c = sym (c .before .cut-short .ensures) ∙ c .if1 .left
+
+tag-known : (c : tie.After-known) → knownTag (tagOf (c .before .before .before .before .before .args .bytes .now)) ≡ c .known .result
+unfolding tagOf
+tag-known c = sym (c .known .ensures ∙ ap knownTag (c .before .at .ensures))
+
+length-wrong : (c : tie.After-length-of) → wrongLength (c .before .before .before .before .before .before .before .before .args .bytes .now) ≡ not (eqb (c .before .stated-length .result) (c .length-of .result))
+unfolding tagOf
+length-wrong c = tested _ _ _ _ (c .before .stated-length .ensures) (c .before .before .before .before .at .ensures) (c .length-of .ensures)
+
+cut-short-requires : tie.Need-cut-short-requires
+cut-short-requires c κs = search needs
+
+returns : tie.Need-returns
+unfolding firstThat refusalOf
+returns c = sym (framed _ true _ _ (sym (c .before .cut-short .ensures) ∙ c .if1 .taken) refl refl)
+
+at-requires : tie.Need-at-requires
+at-requires c κs = search needs
+
+known-requires : tie.Need-known-requires
+known-requires c κs = search needs
+
+returns-2 : tie.Need-returns-2
+unfolding firstThat refusalOf
+returns-2 c = sym (framed _ false false _ (uncut (c .before .before .before)) (tag-known (c .before) ∙ not-true _ (c .if2 .taken)) refl)
+
+stated-length-requires : tie.Need-stated-length-requires
+stated-length-requires c κs = search needs
+
+length-of-requires : tie.Need-length-of-requires
+length-of-requires c κs = search needs
+
+returns-3 : tie.Need-returns-3
+unfolding firstThat refusalOf
+returns-3 c = sym (framed _ false true true (uncut (c .before .before .before .before .before .before)) (tag-known (c .before .before .before .before) ∙ not-false _ (c .before .before .before .if2 .left)) (length-wrong (c .before) ∙ ap not (ne-eqb _ _ (c .if3 .taken))))
+
+returns-4 : tie.Need-returns-4
+unfolding firstThat refusalOf
+returns-4 c = sym (framed _ false true false (uncut (c .before .before .before .before .before .before)) (tag-known (c .before .before .before .before) ∙ not-false _ (c .before .before .before .if2 .left)) (length-wrong (c .before) ∙ ap not (eq-eqb _ _ (c .if3 .left))))
+
+pub refusal-spec : {M : Type 1} → statement M
+refusal-spec =
+    tie.close
+    (tie.spec
+    cut-short-requires
+    returns
+    at-requires
+    known-requires
+    returns-2
+    stated-length-requires
+    length-of-requires
+    returns-3
+    returns-4)
