@@ -1,9 +1,13 @@
 -- Each case of an answer meets its outcome.
 use Prim.Native.Nat.{ℕ}
-use mathlib.Core.Path.{_≡_, refl, sym, ap, _∙_}
+use mathlib.Core.Path.{_≡_, refl, sym, ap, subst, _∙_}
+use mathlib.Core.List.{List}
 use Rattle.flow.specs.Box.{Rule}
 use Rattle.flow.specs.Calls.{Change, after}
-use Rattle.flow.specs.Verdicts.{Outcome, refuses, loads, allows, inhibits, modifies, answerOf, withRule, stateAfter}
+use Rattle.flow.specs.Verdicts.{Outcome, refuses, loads, allows, inhibits, modifies, answerOf, withRule, stateAfter, outcome}
+use Rattle.records.specs.declared.Record.{Record}
+use Rattle.records.specs.Reading.{reading, readingOf, outcomeOf}
+use Rattle.records.proofs.RecordLaws.{outcome-reading}
 use Rattle.decision.specs.declared.Monitor.{Monitor}
 use Rattle.decision.specs.declared.Answer.the-variants.{Refused, Loaded, Allow, Inhibit, Modify}
 use Rattle.decision.specs.declared.Answered.{Answered}
@@ -35,3 +39,7 @@ module _ (m : Monitor) (o : Outcome) where
   unfolding wordOf answerOf stateAfter
   loaded-as t n r e h =
       record { answer = sym (ap answerOf e); state = h ∙ sym (ap (stateAfter (view m)) e); refused-kept = λ k d. cc; inhibited-kept = λ k d. cc }
+
+-- a record that was read gets what its reading gets
+pub by-reading : (m : Monitor) (bytes : List ℕ) (x : Record) (r : Answered) → readingOf x ≡ reading bytes → Answers m (outcomeOf (view m) (readingOf x)) r → Answers m (outcome (view m) bytes) r
+by-reading m bytes x r e h = subst (λ (o : Outcome). Answers m o r) (ap (outcomeOf (view m)) e ∙ sym (outcome-reading (view m) bytes)) h

@@ -1,14 +1,13 @@
 -- A rule is broken where the holders of its items say so, and the lowest broken rule is the first that the search finds.
-use Prim.Native.Nat.{ℕ, zero, suc, _+_, _%_, _^_, _<_, _≤_}
+use Prim.Native.Nat.{ℕ, zero, suc, _+_, _-_, _%_, _^_, _<_, _≤_}
 use native.Mathlib.Omega.{arith}
-use native.Mathlib.Nat.{mod-lt}
 use mathlib.Core.Path.{_≡_, refl, sym, ap, _∙_}
 use mathlib.Core.Bool.{Bool, true, false, not, _&&_}
 use mathlib.Core.List.{List, [], _∷_}
 use mathlib.Core.Option.{Option, none, some}
 use lib.Dec.{ltb, eqb}
 use lib.ListN.{getD}
-use borrow.Author.Tests.{eqb-true, eqb-false, eq-eqb, ne-eqb, ltb-true, lt-ltb}
+use borrow.Author.Tests.{eqb-true, eqb-false, eq-eqb, ne-eqb, ltb-true, ltb-false, lt-ltb, le-ltb}
 use Rattle.sets.specs.Sets.{has, those, _∩_}
 use Rattle.sets.proofs.Members.{those-has, those-lt, inter-has, inter-lt, none-has, has-lt, set-ext, some-member}
 use Rattle.flow.specs.Tables.{tableFrom, table, someBelow}
@@ -17,9 +16,9 @@ use Rattle.flow.specs.Links.{meets}
 use Rattle.flow.specs.Rules.{holds, breaks, broken, Numbered, firstBroken, lowestBroken}
 use Rattle.flow.specs.Refusals.{itemsFit}
 use Rattle.flow.specs.Queries.{holders}
-use Rattle.flow.proofs.Bools.{by, no-both, and-l, and-r, and-i, chosen-l, chosen-r, choices}
+use Rattle.flow.proofs.Bools.{by, no-both, and-l, and-r, and-i, choice, chosen-l, chosen-r, choices}
 use Rattle.flow.proofs.TableLaws.{table-at, some-of, none-of, none-below}
-use Rattle.decision.specs.Judging.{conditionFrom, stored, brokenBy, firstFrom}
+use Rattle.decision.specs.Judging.{conditionFrom, stored, conditionAt, ruleFrom, brokenBy, firstFrom, countOf}
 
 some-same : (n : ℕ) {f g : ℕ → Bool} → ((i : ℕ) → i < n → f i ≡ g i) → someBelow n f ≡ someBelow n g
 unfolding someBelow
@@ -93,13 +92,51 @@ module _ (s : State) (h : List ℕ) (e : h ≡ table itemCount (λ i. holders s 
   unfolding broken
   broken-by r f = by-holders (r .condition) f
 
+-- ---- a condition by its tag
+module _ (tag item set : ℕ) where
+  pub forbids-by : tag ≡ 0x11 → stored tag item set ≡ forbid (item % 64) set
+  unfolding stored
+  forbids-by e = chosen-l (eqb tag 0x11) _ _ (eq-eqb tag 0x11 e)
+
+  pub separates-by : (tag ≡ 0x11 → ⊥) → tag ≡ 0x12 → stored tag item set ≡ separate (item % 64) (set % 64)
+  unfolding stored
+  separates-by n e = chosen-r (eqb tag 0x11) _ _ (ne-eqb tag 0x11 n) ∙ chosen-l (eqb tag 0x12) _ _ (eq-eqb tag 0x12 e)
+
+  pub confines-by : (tag ≡ 0x11 → ⊥) → (tag ≡ 0x12 → ⊥) → stored tag item set ≡ confine (item % 64) set
+  unfolding stored
+  confines-by n e = chosen-r (eqb tag 0x11) _ _ (ne-eqb tag 0x11 n) ∙ chosen-r (eqb tag 0x12) _ _ (ne-eqb tag 0x12 e)
+
+  pub forbids-from : tag ≡ 0x11 → conditionFrom tag item set ≡ forbid item set
+  unfolding conditionFrom
+  forbids-from e = chosen-l (eqb tag 0x11) _ _ (eq-eqb tag 0x11 e)
+
+  pub separates-from : (tag ≡ 0x11 → ⊥) → tag ≡ 0x12 → conditionFrom tag item set ≡ separate item set
+  unfolding conditionFrom
+  separates-from n e = chosen-r (eqb tag 0x11) _ _ (ne-eqb tag 0x11 n) ∙ chosen-l (eqb tag 0x12) _ _ (eq-eqb tag 0x12 e)
+
+  pub confines-from : (tag ≡ 0x11 → ⊥) → (tag ≡ 0x12 → ⊥) → conditionFrom tag item set ≡ confine item set
+  unfolding conditionFrom
+  confines-from n e = chosen-r (eqb tag 0x11) _ _ (ne-eqb tag 0x11 n) ∙ chosen-r (eqb tag 0x12) _ _ (ne-eqb tag 0x12 e)
+
+-- how many rules there are
+pub count-all : (n : ℕ) → n < 32 → countOf n ≡ n
+unfolding countOf
+count-all n l = chosen-l (ltb n 32) n 32 (lt-ltb n 32 l)
+
+pub count-full : (n : ℕ) → 32 ≤ n → countOf n ≡ 32
+unfolding countOf
+count-full n l = chosen-r (ltb n 32) n 32 (le-ltb n 32 l)
+
+pub count-le : (n : ℕ) → countOf n ≤ 32
+count-le n = by (ltb n 32) (λ e. let z : n < 32 = ltb-true n 32 e in let y : countOf n ≡ n = count-all n z in omega arith) (λ e. let y : countOf n ≡ 32 = count-full n (ltb-false n 32 e) in omega arith)
+
 -- the items of a stored condition are below 64
 pub stored-fits : (tag item set : ℕ) → itemsFit (stored tag item set) ≡ true
 unfolding stored itemsFit
 stored-fits tag item set = go (eqb tag 0x11) (eqb tag 0x12)
   where
     below : (x : ℕ) → ltb (x % 64) 64 ≡ true
-    below x = lt-ltb (x % 64) 64 (mod-lt x 64)
+    below x = lt-ltb (x % 64) 64 (omega arith)
 
     go : (a b : Bool)
         → itemsFit (elim a as (λ z. Condition) [ true ↦ forbid (item % 64) set | false ↦ elim b as (λ z. Condition) [ true ↦ separate (item % 64) (set % 64) | false ↦ confine (item % 64) set ] ]) ≡ true
@@ -119,6 +156,39 @@ first-hit n k f e = chosen-l (f k) k _ e
 pub first-miss : (n k : ℕ) (f : ℕ → Bool) → f k ≡ false → firstFrom (suc n) k f ≡ firstFrom n (suc k) f
 unfolding firstFrom
 first-miss n k f e = chosen-r (f k) k _ e
+
+-- the search has come to k without a hit
+pub record Seek (f : ℕ → Bool) (end k : ℕ) : Type 0 where
+  pub within : k ≤ end
+  pub same : firstFrom end 0 f ≡ firstFrom (end - k) k f
+
+pub seek-start : (f : ℕ → Bool) (end : ℕ) → Seek f end 0
+seek-start f end = record { within = omega arith; same = ap (λ (n : ℕ). firstFrom n 0 f) (let z : end ≡ end - 0 = omega arith in z) }
+
+module _ {f : ℕ → Bool} {end k : ℕ} (w : Seek f end k) where
+  pub seek-hit : k < end → f k ≡ true → (n : ℕ) → end ≡ n → k ≡ firstFrom n 0 f
+  seek-hit l e n q = sym (ap (λ (x : ℕ). firstFrom x 0 f) (sym q) ∙ w .same ∙ ap (λ (n : ℕ). firstFrom n k f) (let z : end - k ≡ suc (end - (k + 1)) = omega arith in z) ∙ first-hit (end - (k + 1)) k f e)
+
+  pub seek-miss : k < end → f k ≡ false → Seek f end (k + 1)
+  seek-miss l e =
+      record {
+        within = omega arith;
+        same =
+            w .same
+            ∙ ap (λ (n : ℕ). firstFrom n k f) (let z : end - k ≡ suc (end - (k + 1)) = omega arith in z)
+            ∙ first-miss (end - (k + 1)) k f e
+            ∙ ap (λ (n : ℕ). firstFrom (end - (k + 1)) n f) (let z : suc k ≡ k + 1 = omega arith in z);
+      }
+
+  pub seek-end : end ≤ k → (n : ℕ) → end ≡ n → end ≡ firstFrom n 0 f
+  seek-end l n q =
+      let e : k ≡ end = let h : k ≤ end = w .within in omega arith in
+      sym (ap (λ (x : ℕ). firstFrom x 0 f) (sym q) ∙ w .same ∙ ap (λ (n : ℕ). firstFrom n k f) (let z : end - k ≡ 0 = omega arith in z) ∙ first-none k f ∙ e)
+
+pub first-le : (n k : ℕ) (f : ℕ → Bool) → firstFrom n k f ≤ k + n
+unfolding firstFrom
+first-le zero k f = omega arith
+first-le (suc n) k f = choice (λ x. x ≤ k + suc n) (f k) k (firstFrom n (suc k) f) (λ e. omega arith) (λ e. let h : firstFrom n (suc k) f ≤ suc k + n = first-le n (suc k) f in omega arith)
 
 -- what the search from k on found: nothing at its end, else the rule there
 unfoldable pub found : ℕ → (ℕ → Rule) → ℕ → Option Numbered
@@ -143,4 +213,15 @@ first-found s (suc n) k rule =
 -- the lowest broken rule of a table of rules
 pub lowest-found : (s : State) (n : ℕ) (rule : ℕ → Rule) → s .rules ≡ table n rule → lowestBroken s ≡ found n rule (firstFrom n 0 (λ j. broken s (rule j)))
 unfolding lowestBroken table
-lowest-found s n rule e = ap (firstBroken s 0) e ∙ first-found s n 0 rule
+lowest-found s n rule e =
+    ap (firstBroken s 0) e ∙ first-found s n 0 rule ∙ ap (λ (m : ℕ). found m rule (firstFrom n 0 (λ j. broken s (rule j)))) (let z : 0 + n ≡ n = omega arith in z)
+
+-- ---- judging by the holders is judging the state
+pub none-to-judge : (loaded : ℕ) (f : ℕ → Bool) → loaded ≡ 0 → 0 ≡ firstFrom (countOf loaded) 0 f
+unfolding countOf firstFrom
+none-to-judge loaded f e = rw e refl
+
+pub judged-by : (s : State) (h tags items sets : List ℕ) (n : ℕ) → h ≡ table itemCount (λ i. holders s i)
+    → firstFrom n 0 (λ k. brokenBy h (conditionAt tags items sets k)) ≡ firstFrom n 0 (λ k. broken s (ruleFrom (conditionAt tags items sets k) 0 0))
+judged-by s h tags items sets n e =
+    λ i. firstFrom n 0 (λ k. broken-by s h e (ruleFrom (conditionAt tags items sets k) 0 0) (stored-fits (getD tags k 0) (getD items k 0) (getD sets k 0)) i)

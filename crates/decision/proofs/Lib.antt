@@ -1,5 +1,6 @@
 pub mod JudgingLaws
 pub mod AnswerLaws
 pub mod VerdictLaws
+pub mod StopLaws
 pub mod LoadLaws
 pub mod TwoRuns

@@ -11,10 +11,11 @@ use lib.ListN.{getD, length, set}
 use lib.Seq.{getD-set-same, getD-set-other}
 use borrow.Author.Tests.{eqb-true, ltb-true, lt-ltb, ltb-false, le-ltb, le-leb, lt-leb}
 use Rattle.flow.specs.Tables.{_⇒_, firstThat, tableFrom, table}
-use Rattle.flow.specs.Box.{isDevice, isFile, leads, Condition, forbid, separate, confine, Rule, State}
+use Rattle.flow.specs.Box.{itemCount, leads, Condition, forbid, separate, confine, Rule, State}
 use Rattle.flow.specs.Rules.{broken}
 use Rattle.flow.specs.Refusals.{itemsFit, substituteFits, sameItems, ruleTests}
-use Rattle.flow.specs.Verdicts.{refuses, loads, withRule}
+use Rattle.flow.specs.Verdicts.{Outcome, refuses, loads, withRule}
+use Rattle.flow.specs.Queries.{holders}
 use Rattle.flow.proofs.Bools.{by, no-both, and-l, and-r, or-elim, chosen-l, chosen-r}
 use Rattle.flow.proofs.Rows.{leads-lt}
 use Rattle.records.specs.Reading.{aRule, outcomeOfRule, outcomeOf}
@@ -22,8 +23,9 @@ use Rattle.tracker.specs.View.{view as trackerView}
 use Rattle.tracker.proofs.Spreading.{table-length}
 use Rattle.tracker.proofs.Views.{view-rules, view-with-rule}
 use Rattle.decision.specs.declared.Monitor.{Monitor}
-use Rattle.decision.specs.Judging.{conditionFrom, stored, conditionAt, ruleFrom, countOf}
+use Rattle.decision.specs.Judging.{conditionFrom, stored, ruleFrom, brokenBy, countOf}
 use Rattle.decision.specs.Loading.{unfitNumber}
+use Rattle.decision.proofs.JudgingLaws.{count-all, count-full, broken-by}
 use Rattle.decision.specs.View.{ruleAt, ruleOf, rulesOf, view}
 
 -- ---- the tests
@@ -50,11 +52,6 @@ module _ (s : State) (r : Rule) where
   first-fit false false true d e h = absurd (let z : ⊥ = omega arith in z)
   first-fit false false false d e h = refl
 
-  both-fit : (a b c : Bool) → 0 ≡ number (not a) (not b) c → b ≡ true
-  both-fit a true c h = refl
-  both-fit true false c h = absurd (let z : ⊥ = omega arith in z)
-  both-fit false false c h = absurd (let z : ⊥ = omega arith in z)
-
   module _ (e : 0 ≡ unfitNumber r) where
     by-state : (d f : Bool) → leb 32 (length (s .rules)) ≡ d → broken s r ≡ f → outcomeOf s (aRule r) ≡ outcomeOfRule s r (firstThat ((d ⇒ 11) ∷ (f ⇒ 12) ∷ []))
     unfolding unfitNumber outcomeOf ruleTests
@@ -76,20 +73,46 @@ module _ (s : State) (r : Rule) where
     unfolding outcomeOfRule firstThat
     rule-loads g h = by-state false false g h
 
-    fields-fit : (itemsFit (r .condition) && substituteFits r) ≡ true
+-- ---- the number by its tests
+module _ (r : Rule) where
+  pub unfit-4 : 2 ≤ r .action → unfitNumber r ≡ 4
+  unfolding unfitNumber
+  unfit-4 h = chosen-l (not (ltb (r .action) 2)) 4 _ (ap not (le-ltb (r .action) 2 h))
+
+  module _ (a b : Bool) (e : a ≡ itemsFit (r .condition)) (f : b ≡ substituteFits r) (l : r .action < 2) where
+    pub unfit-5 : not (a && b) ≡ true → unfitNumber r ≡ 5
     unfolding unfitNumber
-    fields-fit = both-fit (ltb (r .action) 2) (itemsFit (r .condition) && substituteFits r) (sameItems (r .condition)) e
+    unfit-5 h =
+        chosen-r (not (ltb (r .action) 2)) 4 _ (ap not (lt-ltb (r .action) 2 l))
+        ∙ chosen-l (not (itemsFit (r .condition) && substituteFits r)) 5 _ (ap not (sym (ap₂ _&&_ e f)) ∙ h)
 
-    pub items-fit : itemsFit (r .condition) ≡ true
-    items-fit = and-l (itemsFit (r .condition)) (substituteFits r) fields-fit
+    pub unfit-same : (d : Bool) → not (a && b) ≡ false → d ≡ sameItems (r .condition) → unfitNumber r ≡ elim d as (λ z. ℕ) [ true ↦ 9 | false ↦ 0 ]
+    unfolding unfitNumber
+    unfit-same d h g =
+        chosen-r (not (ltb (r .action) 2)) 4 _ (ap not (lt-ltb (r .action) 2 l))
+        ∙ chosen-r (not (itemsFit (r .condition) && substituteFits r)) 5 _ (ap not (sym (ap₂ _&&_ e f)) ∙ h)
+        ∙ ap (λ (z : Bool). elim z as (λ z. ℕ) [ true ↦ 9 | false ↦ 0 ]) (sym g)
 
-    pub substitute-small : r .substitute < 64
-    unfolding substituteFits
-    substitute-small = go (eqb (r .action) 0) (and-r (itemsFit (r .condition)) (substituteFits r) fields-fit)
-      where
-        go : (b : Bool) → _≡_ {A = Bool} (elim b as (λ z. Bool) [ true ↦ eqb (r .substitute) 0 | false ↦ leads (r .substitute) ]) true → r .substitute < 64
-        go true h = let z : r .substitute ≡ 0 = eqb-true (r .substitute) 0 h in omega arith
-        go false h = leads-lt (r .substitute) h
+both-fit : (a b c : Bool) → 0 ≡ number (not a) (not b) c → b ≡ true
+both-fit a true c h = refl
+both-fit true false c h = absurd (let z : ⊥ = omega arith in z)
+both-fit false false c h = absurd (let z : ⊥ = omega arith in z)
+
+module _ (r : Rule) (e : 0 ≡ unfitNumber r) where
+  fields-fit : (itemsFit (r .condition) && substituteFits r) ≡ true
+  unfolding unfitNumber
+  fields-fit = both-fit (ltb (r .action) 2) (itemsFit (r .condition) && substituteFits r) (sameItems (r .condition)) e
+
+  pub items-fit : itemsFit (r .condition) ≡ true
+  items-fit = and-l (itemsFit (r .condition)) (substituteFits r) fields-fit
+
+  pub substitute-small : r .substitute < 64
+  unfolding substituteFits
+  substitute-small = go (eqb (r .action) 0) (and-r (itemsFit (r .condition)) (substituteFits r) fields-fit)
+    where
+      go : (b : Bool) → _≡_ {A = Bool} (elim b as (λ z. Bool) [ true ↦ eqb (r .substitute) 0 | false ↦ leads (r .substitute) ]) true → r .substitute < 64
+      go true h = let z : r .substitute ≡ 0 = eqb-true (r .substitute) 0 h in omega arith
+      go false h = leads-lt (r .substitute) h
 
 -- ---- stored fields
 -- a condition whose items fit is stored as it is
@@ -120,9 +143,8 @@ pub rules-length : (m : Monitor) → length (view m .rules) ≡ countOf (m .load
 unfolding view rulesOf
 rules-length m = ap length (view-rules (m .tracker) (rulesOf m)) ∙ table-length (countOf (m .loaded)) (ruleOf m)
 
-pub count-small : (n : ℕ) → n < 32 → countOf n ≡ n
-unfolding countOf
-count-small n l = chosen-l (ltb n 32) n 32 (lt-ltb n 32 l)
+pub loads-at : (m : Monitor) (o : Outcome) (r : Rule) → m .loaded < 32 → o ≡ loads (length (view m .rules)) r → o ≡ loads (m .loaded) r
+loads-at m o r l e = e ∙ ap (λ (n : ℕ). loads n r) (rules-length m ∙ count-all (m .loaded) l)
 
 count-next : (n : ℕ) → n < 32 → countOf (n + 1) ≡ suc n
 unfolding countOf
@@ -132,11 +154,10 @@ count-next n l =
     (λ e. chosen-r (ltb (n + 1) 32) (n + 1) 32 e ∙ (let z : 32 ≤ n + 1 = ltb-false (n + 1) 32 e in let y : 32 ≡ suc n = omega arith in y))
 
 pub is-full : (m : Monitor) → 32 ≤ m .loaded → leb 32 (length (view m .rules)) ≡ true
-unfolding countOf
-is-full m l = le-leb 32 _ (let e : length (view m .rules) ≡ 32 = rules-length m ∙ chosen-r (ltb (m .loaded) 32) (m .loaded) 32 (le-ltb _ _ l) in omega arith)
+is-full m l = le-leb 32 (length (view m .rules)) (let e : length (view m .rules) ≡ 32 = rules-length m ∙ count-full (m .loaded) l in omega arith)
 
 pub has-room : (m : Monitor) → m .loaded < 32 → leb 32 (length (view m .rules)) ≡ false
-has-room m l = lt-leb _ _ (let e : length (view m .rules) ≡ m .loaded = rules-length m ∙ count-small (m .loaded) l in omega arith)
+has-room m l = lt-leb 32 (length (view m .rules)) (let e : length (view m .rules) ≡ m .loaded = rules-length m ∙ count-all (m .loaded) l in omega arith)
 
 -- a table with one more at its end
 table-more : {A : Type 0} (n k : ℕ) (f g : ℕ → A) (x : A) → ((j : ℕ) → j < k + n → g j ≡ f j) → g (k + n) ≡ x → tableFrom (suc n) k g ≡ tableFrom n k f ++ (x ∷ [])
@@ -177,5 +198,13 @@ module _ (m : Monitor) (tag item set′ action substitute : ℕ) (lt : length (m
   unfolding view rulesOf table
   rule-stored l e =
       let c : countOf (n + 1) ≡ suc n = count-next n l in
-      ap (trackerView (m .tracker)) (ap (λ (k : ℕ). tableFrom k 0 (ruleOf t)) c ∙ table-more n 0 (ruleOf m) (ruleOf t) _ earlier (last l ∙ rule-same tag item set′ action substitute e) ∙ ap (λ (k : ℕ). tableFrom k 0 (ruleOf m) ++ (ruleFrom (conditionFrom tag item set′) action substitute ∷ [])) (sym (count-small n l)))
+      ap (trackerView (m .tracker)) (ap (λ (k : ℕ). tableFrom k 0 (ruleOf t)) c ∙ table-more n 0 (ruleOf m) (ruleOf t) _ (λ j h. earlier j (omega arith)) (ap (ruleOf t) (let z : 0 + n ≡ n = omega arith in z) ∙ last l ∙ rule-same tag item set′ action substitute e) ∙ ap (λ (k : ℕ). tableFrom k 0 (ruleOf m) ++ (ruleFrom (conditionFrom tag item set′) action substitute ∷ [])) (sym (count-all n l)))
       ∙ sym (view-with-rule (m .tracker) (rulesOf m) (ruleFrom (conditionFrom tag item set′) action substitute))
+
+-- whether the present state breaks a rule, by the holders
+pub broken-now : (m : Monitor) (h : List ℕ) (tag item set′ action substitute : ℕ) (b : Bool) → ((rules : List Rule) → h ≡ table itemCount (λ i. holders (trackerView (m .tracker) rules) i))
+    → 0 ≡ unfitNumber (ruleFrom (conditionFrom tag item set′) action substitute) → b ≡ brokenBy h (stored tag item set′) → broken (view m) (ruleFrom (conditionFrom tag item set′) action substitute) ≡ b
+unfolding view
+broken-now m h tag item set′ action substitute b e u g =
+    let r : Rule = ruleFrom (conditionFrom tag item set′) action substitute in
+    sym (g ∙ ap (brokenBy h) (stored-same tag item set′ (items-fit r u)) ∙ broken-by (view m) h (e (rulesOf m)) r (items-fit r u))

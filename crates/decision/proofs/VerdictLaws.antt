@@ -1,8 +1,8 @@
 -- Verdicts: a call is worked out, then the lowest broken rule decides.
-use Prim.Native.Nat.{ℕ, _+_, _%_, _<_}
+use Prim.Native.Nat.{ℕ, _+_, _%_, _≤_, _<_}
 use native.Mathlib.Omega.{arith}
 use native.Mathlib.Nat.{mod-eq-of-lt}
-use mathlib.Core.Path.{_≡_, refl, sym, ap, _∙_}
+use mathlib.Core.Path.{_≡_, refl, sym, ap, subst, _∙_}
 use mathlib.Core.Bool.{Bool, true, false, not, _&&_}
 use mathlib.Core.List.{List, [], _∷_}
 use mathlib.Core.Option.{Option, none, some}
@@ -31,11 +31,11 @@ use Rattle.decision.specs.declared.Answered.{Answered}
 use Rattle.decision.specs.Judging.{conditionAt, ruleFrom, firstFrom, countOf}
 use Rattle.decision.specs.View.{ruleAt, ruleOf, rulesOf, view}
 use Rattle.decision.specs.Answers.{Answers, Asked, WorkedOut}
-use Rattle.decision.proofs.JudgingLaws.{found, found-none, found-some, lowest-found}
+use Rattle.decision.proofs.JudgingLaws.{count-le, first-le, found, found-none, found-some, lowest-found}
 
 -- ---- the lowest broken rule of a tracker's state, by the search
 module _ (m : Monitor) (t : Tracker) (k : ℕ) where
-  abbrev Searched : Type 0
+  abbrev pub Searched : Type 0
   Searched =
       (rules : List Rule) → k ≡ firstFrom (countOf (m .loaded)) 0 (λ j. broken (trackerView t rules) (ruleFrom (conditionAt (m .tags) (m .items) (m .sets) j) 0 0))
 
@@ -59,6 +59,17 @@ module _ (s u : State) (q : Call) (e : u ≡ after s (change s q)) where
   pub stops : (x : Numbered) → lowestBroken u ≡ some x → verdict s q ≡ stopped s q (x .number) (x .rule)
   unfolding verdict verdictBy
   stops x h = ap (verdictBy s q) (ap lowestBroken (sym e) ∙ h)
+
+-- the search hit rule number k
+pub stopped-by : (m : Monitor) (t : Tracker) (k kind p : ℕ) (q : Call) (w : WorkedOut m t q kind p) → Searched m t k → (n : ℕ) → n ≡ countOf (m .loaded) → (k ≡ n → ⊥)
+    → (r : Answered) → ((x : Call) → Asked x kind p → Answers m (stopped (view m) x k (ruleOf m (k % 32))) r) → Answers m (verdict (view m) q) r
+stopped-by m t k kind p q w e n c z r f =
+    let l : k < 32 = (let x : k ≤ 0 + countOf (m .loaded) = subst (λ (y : ℕ). y ≤ 0 + countOf (m .loaded)) (sym (e (rulesOf m))) (first-le (countOf (m .loaded)) 0 _) in let y : countOf (m .loaded) ≤ 32 = count-le (m .loaded) in let v : (k ≡ countOf (m .loaded) → ⊥) = λ h. z (h ∙ sym c) in below k (countOf (m .loaded)) x y v) in
+    let g : verdict (view m) q ≡ stopped (view m) q k (ruleOf m k) = stops (view m) (trackerView t (rulesOf m)) q (w .leads-to) _ (rule-broken m t k e (λ h. z (h ∙ sym c))) in
+    subst (λ (o : Outcome). Answers m o r) (ap (λ (y : ℕ). stopped (view m) q k (ruleOf m y)) (mod-eq-of-lt l) ∙ sym g) (f q (w .asked))
+  where
+    below : (k n : ℕ) → k ≤ 0 + n → n ≤ 32 → (k ≡ n → ⊥) → k < 32
+    below k n x y v = omega (arith, v)
 
 module _ (s : State) (q : Call) (n : ℕ) (r : Rule) where
   pub not-diverted : mayDivert s q r ≡ false → stopped s q n r ≡ inhibits n
@@ -118,7 +129,7 @@ module _ (m : Monitor) (kind p a b c : ℕ) where
   q = callFrom kind p a b c
 
   pub call-refused : (n : ℕ) → some n ≡ firstThat (callTests (view m) q) → outcomeOf (view m) (aCall q) ≡ refuses n
-  unfolding outcomeOf
+  unfolding outcomeOf outcomeOfCall
   call-refused n e = ap (outcomeOfCall (view m) q) (sym e) ∙ of-number q
     where
       of-number : (o : Option Call) → outcomeOfCall (view m) o (some n) ≡ refuses n

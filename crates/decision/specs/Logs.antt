@@ -22,7 +22,7 @@ codeOf (refused n) = 4 + 256 * n
 
 unfoldable pub codesOf : List Word → List ℕ
 codesOf [] = []
-codesOf (a ∷ as) = codeOf a ∷ codesOf as
+codesOf (a ∷ rest) = codeOf a ∷ codesOf rest
 
 -- the slice has room for one code a record
 unfoldable pub roomFor : Monitor → List ℕ → List ℕ → Bool
