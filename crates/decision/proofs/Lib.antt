@@ -3,4 +3,5 @@ pub mod AnswerLaws
 pub mod VerdictLaws
 pub mod StopLaws
 pub mod LoadLaws
+pub mod LogLaws
 pub mod TwoRuns

@@ -1,0 +1,191 @@
+-- A log goes record by record; each answer's code is stored behind the others.
+use Prim.Native.Nat.{ℕ, suc, _+_, _-_, _≤_, _<_}
+use native.Mathlib.Omega.{arith}
+use native.Mathlib.Numerals.{add-one}
+use mathlib.Core.Path.{_≡_, refl, sym, ap, ap₂, _∙_}
+use mathlib.Core.Bool.{true, false}
+use mathlib.Core.List.{List, [], _∷_, _++_}
+use lib.Dec.{leb}
+use lib.ListN.{length, take, drop, set, length-drop, length-set, length-append, take-append-drop, drop-of-length-le}
+use lib.Seq.{take-all, take-suc-set, drop-set-lt, drop-drop, append-snoc}
+use borrow.Author.Tests.{le-leb, lt-leb}
+use Rattle.flow.specs.Box.{State}
+use Rattle.flow.specs.Records.{recordsIn, recordsOf}
+use Rattle.flow.specs.Verdicts.{Answer as Word, answerOf, outcome, answer, next, Answered as LogAnswered, answerAll, runLog}
+use Rattle.flow.specs.Queries.{result, refuse}
+use Rattle.records.specs.Reading.{extentOf}
+use Rattle.records.proofs.RecordLaws.{extent-positive, extent-le, records-first, log-empty, log-first}
+use Rattle.tracker.specs.Replies.{replyOf}
+use Rattle.tracker.specs.declared.queries.Reply.the-variants.{Result, Refused}
+use Rattle.decision.specs.declared.Monitor.{Monitor}
+use Rattle.decision.specs.declared.Answered.{Answered}
+use Rattle.decision.specs.declared.Ran.{Ran}
+use Rattle.decision.specs.View.{view}
+use Rattle.decision.specs.Answers.{wordOf, Answers}
+use Rattle.decision.specs.Logs.{codeOf, codesOf, roomFor, RunsBy, Runs}
+
+-- ---- parts of the log
+-- from the place f on up to the place t
+abbrev part : ℕ → ℕ → List ℕ → List ℕ
+part f t l = take (t - f) (drop f l)
+
+pub tail-part : (at : ℕ) (log : List ℕ) → part at (length log) log ≡ drop at log
+tail-part at log = take-all (length log - at) (drop at log) (let e : length (drop at log) ≡ length log - at = length-drop at log in omega arith)
+
+pub record-part : (at e : ℕ) (log : List ℕ) → part at (at + e) log ≡ take e (drop at log)
+record-part at e log = ap (λ (n : ℕ). take n (drop at log)) (let z : at + e - at ≡ e = omega arith in z)
+
+-- ---- counting
+-- n records stand before the place at
+pub record Counted (log : List ℕ) (at n : ℕ) : Type 0 where
+  pub within : at ≤ length log
+  pub fewer : n ≤ at
+  pub counted : length (recordsOf log) ≡ n + length (recordsOf (drop at log))
+
+pub count-start : (log : List ℕ) → Counted log 0 0
+count-start log = record { within = omega arith; fewer = omega arith; counted = let z : length (recordsOf log) ≡ 0 + length (recordsOf log) = omega arith in z }
+
+module _ {log : List ℕ} {at n : ℕ} (w : Counted log at n) (l : at < length log) (e : ℕ) (h : e ≡ extentOf (part at (length log) log)) where
+  extent-is : e ≡ extentOf (drop at log)
+  extent-is = h ∙ ap extentOf (tail-part at log)
+
+  left : 0 < length (drop at log)
+  left = let d : length (drop at log) ≡ length log - at = length-drop at log in omega arith
+
+  pub extent-some : 1 ≤ e
+  extent-some = let z : 1 ≤ extentOf (drop at log) = extent-positive (drop at log) left in let y : e ≡ extentOf (drop at log) = extent-is in omega arith
+
+  pub extent-fits : at + e ≤ length log
+  extent-fits =
+      let z : extentOf (drop at log) ≤ length (drop at log) = extent-le (drop at log) in
+      let y : e ≡ extentOf (drop at log) = extent-is in
+      let d : length (drop at log) ≡ length log - at = length-drop at log in
+      omega arith
+
+  rest-is : drop (extentOf (drop at log)) (drop at log) ≡ drop (at + e) log
+  rest-is = drop-drop (extentOf (drop at log)) at log ∙ ap (λ (x : ℕ). drop (at + x) log) (sym extent-is)
+
+  one-less : length (recordsOf (drop at log)) ≡ suc (length (recordsOf (drop (at + e) log)))
+  one-less = ap length (records-first (drop at log) left) ∙ ap (λ (x : List ℕ). suc (length (recordsOf x))) rest-is
+
+  pub count-more : Counted log (at + e) (n + 1)
+  count-more =
+      record {
+        within = extent-fits;
+        fewer = let z : 1 ≤ e = extent-some in let y : n ≤ at = w .fewer in omega arith;
+        counted = let z : length (recordsOf (drop at log)) ≡ suc (length (recordsOf (drop (at + e) log))) = one-less in let y : length (recordsOf log) ≡ n + length (recordsOf (drop at log)) = w .counted in omega arith;
+      }
+
+  -- so far there are fewer records than in the whole log
+  pub count-lt : n < length (recordsOf log)
+  count-lt = let z : length (recordsOf (drop at log)) ≡ suc (length (recordsOf (drop (at + e) log))) = one-less in let y : length (recordsOf log) ≡ n + length (recordsOf (drop at log)) = w .counted in omega arith
+
+no-records : length (recordsOf []) ≡ 0
+unfolding recordsOf recordsIn
+no-records = refl
+
+pub count-end : {log : List ℕ} {at n : ℕ} → Counted log at n → length log ≤ at → n ≡ length (recordsOf log)
+count-end {log} {at} {n} w l =
+    let z : length (recordsOf (drop at log)) ≡ 0 = ap (λ (x : List ℕ). length (recordsOf x)) (drop-of-length-le log l) ∙ no-records in
+    let y : length (recordsOf log) ≡ n + length (recordsOf (drop at log)) = w .counted in
+    omega arith
+
+-- one answer for each record
+answers-length : (s : State) (rs : List (List ℕ)) → length (answerAll s rs .answers) ≡ length rs
+unfolding answerAll
+answers-length s [] = refl
+answers-length s (r ∷ rs) = ap suc (answers-length _ rs)
+
+pub log-answers : (s : State) (log : List ℕ) → length (runLog s log .answers) ≡ length (recordsOf log)
+unfolding runLog
+log-answers s log = answers-length s (recordsOf log)
+
+codes-length : (l : List Word) → length (codesOf l) ≡ length l
+unfolding codesOf
+codes-length [] = refl
+codes-length (a ∷ l) = ap suc (codes-length l)
+
+-- ---- running
+-- the monitor m has answered the n records before the place at, and their codes are stored
+pub record Running (m₀ : Monitor) (log codes₀ : List ℕ) (m : Monitor) (at n : ℕ) (codes : List ℕ) : Type 0 where
+  pub counted : Counted log at n
+  pub room : length (recordsOf log) ≤ length codes₀
+  pub long : length codes ≡ length codes₀
+  pub state : runLog (view m₀) log .state ≡ runLog (view m) (drop at log) .state
+  pub stored : codesOf (runLog (view m₀) log .answers) ≡ take n codes ++ codesOf (runLog (view m) (drop at log) .answers)
+  pub rest : drop n codes ≡ drop n codes₀
+
+pub run-start : (m : Monitor) (log codes : List ℕ) → length (recordsOf log) ≤ length codes → Running m log codes m 0 0 codes
+run-start m log codes h = record { counted = count-start log; room = h; long = refl; state = refl; stored = refl; rest = refl }
+
+module _ {m₀ : Monitor} {log codes₀ : List ℕ} {m : Monitor} {at n : ℕ} {codes : List ℕ} (w : Running m₀ log codes₀ m at n codes) (l : at < length log) (e : ℕ) (h : e ≡ extentOf (part at (length log) log)) where
+  -- there is room for one more
+  pub run-room : n < length codes
+  run-room =
+      let z : n < length (recordsOf log) = count-lt (w .counted) l e h in
+      let y : length (recordsOf log) ≤ length codes₀ = w .room in
+      let x : length codes ≡ length codes₀ = w .long in
+      omega arith
+
+  module _ (r : Answered) (g : Answers m (outcome (view m) (part at (at + e) log)) r) (x : ℕ) (f : x ≡ codeOf (wordOf (r .answer))) where
+    first-is : part at (at + e) log ≡ take (extentOf (drop at log)) (drop at log)
+    first-is = record-part at e log ∙ ap (λ (k : ℕ). take k (drop at log)) (extent-is (w .counted) l e h)
+
+    -- the answers and the state from here on
+    onward : runLog (view m) (drop at log) ≡ record { answers = answer (view m) (part at (at + e) log) ∷ runLog (view (r .monitor)) (drop (at + e) log) .answers; state = runLog (view (r .monitor)) (drop (at + e) log) .state }
+    unfolding next
+    onward =
+        log-first (view m) (drop at log) (left (w .counted) l e h)
+        ∙ ap₂ {C = LogAnswered} (λ (y : List ℕ) (t : LogAnswered). record { answers = answer (view m) y ∷ t .answers; state = t .state }) (sym first-is)
+        (ap₂ runLog (ap (λ (y : List ℕ). next (view m) y) (sym first-is) ∙ sym (g .state)) (rest-is (w .counted) l e h))
+
+    pub run-more : Running m₀ log codes₀ (r .monitor) (at + e) (n + 1) (set codes n x)
+    unfolding codesOf answer
+    run-more =
+        record {
+          counted = count-more (w .counted) l e h;
+          room = w .room;
+          long = length-set codes n x ∙ w .long;
+          state = w .state ∙ ap (λ (t : LogAnswered). t .state) onward;
+          stored =
+              w .stored
+              ∙ ap (λ (t : LogAnswered). take n codes ++ codesOf (t .answers)) onward
+              ∙ ap (λ (k : ℕ). take n codes ++ k ∷ codesOf (runLog (view (r .monitor)) (drop (at + e) log) .answers)) (ap codeOf (sym (g .answer)) ∙ sym f)
+              ∙ sym (append-snoc (take n codes) x _)
+              ∙ ap (λ (y : List ℕ). y ++ codesOf (runLog (view (r .monitor)) (drop (at + e) log) .answers)) (sym (take-suc-set codes n x run-room) ∙ ap (λ (k : ℕ). take k (set codes n x)) (sym (add-one n)));
+          rest =
+              drop-set-lt (n + 1) codes n x (omega arith)
+              ∙ sym (drop-drop 1 n codes) ∙ ap (drop 1) (w .rest) ∙ drop-drop 1 n codes₀;
+        }
+
+-- ---- the log is through
+module _ {m₀ : Monitor} {log codes₀ : List ℕ} {m : Monitor} {at n : ℕ} {codes : List ℕ} (w : Running m₀ log codes₀ m at n codes) (l : length log ≤ at) where
+  over : runLog (view m) (drop at log) ≡ record { answers = []; state = view m }
+  over = ap (runLog (view m)) (drop-of-length-le log l) ∙ log-empty (view m)
+
+  all-answers : n ≡ length (runLog (view m₀) log .answers)
+  all-answers = count-end (w .counted) l ∙ sym (log-answers (view m₀) log)
+
+  front : codesOf (runLog (view m₀) log .answers) ≡ take n codes
+  unfolding codesOf
+  front = w .stored ∙ ap (λ (t : LogAnswered). take n codes ++ codesOf (t .answers)) over ∙ append-nil (take n codes)
+    where
+      append-nil : (x : List ℕ) → x ++ [] ≡ x
+      append-nil [] = refl
+      append-nil (y ∷ x) = ap (λ (z : List ℕ). y ∷ z) (append-nil x)
+
+  pub run-end : Runs m₀ log codes₀ (record { reply = Result n; monitor = m }) codes
+  unfolding Runs RunsBy roomFor replyOf
+  run-end =
+      let room : leb (length (runLog (view m₀) log .answers)) (length codes₀) ≡ true = le-leb (length (runLog (view m₀) log .answers)) (length codes₀) (let z : length (recordsOf log) ≤ length codes₀ = w .room in let y : length (runLog (view m₀) log .answers) ≡ length (recordsOf log) = log-answers (view m₀) log in omega arith) in
+      rw room (
+        ap result all-answers,
+        sym (w .state ∙ ap (λ (t : LogAnswered). t .state) over),
+        sym (take-append-drop n codes) ∙ ap₂ _++_ (sym front) (w .rest ∙ ap (λ (k : ℕ). drop k codes₀) all-answers),
+      )
+
+pub run-refused : (m : Monitor) (log codes : List ℕ) (n : ℕ) → n ≡ length (recordsOf log) → length codes < n → Runs m log codes (record { reply = Refused 13; monitor = m }) codes
+unfolding Runs RunsBy roomFor replyOf
+run-refused m log codes n e l =
+    let room : leb (length (runLog (view m) log .answers)) (length codes) ≡ false = lt-leb (length (runLog (view m) log .answers)) (length codes) (let y : length (runLog (view m) log .answers) ≡ length (recordsOf log) = log-answers (view m) log in omega arith) in
+    rw room (refl, refl, refl)
