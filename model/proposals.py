@@ -197,7 +197,8 @@ class Proposer:
         if tag == LIMIT_TAG:
             allowed = self.choices.some(CONTAINERS, 0.9) + holders
             return limit(item, allowed, action, substitute)
-        apart = [i for i in ITEMS if i != item and not self._meet(item, i)]
+        together = {i for held in self.state.items.values() if item in held for i in held}
+        apart = [i for i in ITEMS if i != item and i not in together]
         if not apart:
             return None
         return combination(item, self.choices.pick(apart), action, substitute)
@@ -224,6 +225,3 @@ class Proposer:
         if self.choices.chance(0.5):
             return deny(self.choices.pick(ITEMS), [], INHIBIT_ACTION, 0)
         return limit(self.choices.pick(ITEMS), CONTAINERS, DIVERT_ACTION, 0)
-
-    def _meet(self, first: int, second: int) -> bool:
-        return any({first, second} <= items for items in self.state.items.values())

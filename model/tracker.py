@@ -137,9 +137,13 @@ class State:
         """Whether a link leads into the container."""
         return any(target == container for _, target in self.links)
 
+    def held(self) -> FrozenSet[int]:
+        """The items that some container holds."""
+        return NO_ITEMS.union(*self.items.values())
+
     def holders(self, item: int) -> List[int]:
         """The containers that hold an item, in rising order."""
-        return [c for c in CONTAINERS if item in self.items[c]]
+        return sorted([c for c, held in self.items.items() if item in held])
 
     def give(self, container: int, given: FrozenSet[int]) -> None:
         """Add the items to everything in the container's reach."""
@@ -422,7 +426,8 @@ def first_refusal(numbers: Set[int]) -> int:
 def is_broken(state: State, rule: Rule) -> bool:
     """Whether the state breaks the rule."""
     if rule.tag == COMBINATION_TAG:
-        return any(set(rule.items) <= held for held in state.items.values())
+        both = frozenset(rule.items)
+        return any(both <= held for held in state.items.values())
     item = rule.items[0]
     return any(forbids(rule, container, item) for container in state.holders(item))
 
@@ -436,7 +441,12 @@ def forbids(rule: Rule, container: int, item: int) -> bool:
 
 def broken_rules(state: State) -> List[int]:
     """The numbers of the rules that the state breaks, in rising order."""
-    return [number for number, rule in enumerate(state.rules) if is_broken(state, rule)]
+    held = state.held()
+    return [
+        number
+        for number, rule in enumerate(state.rules)
+        if held.issuperset(rule.items) and is_broken(state, rule)
+    ]
 
 
 def divert(state: State, call: Call, rule: Rule) -> State:

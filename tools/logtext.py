@@ -18,6 +18,22 @@ RAW = "raw"
 EMPTY_SET = "none"
 SHOWN = 60  # characters of a word in a message
 
+# Document 01, the table of refusals: the bench's words.
+REFUSAL_WORDS = {
+    1: "cut short",
+    2: "unknown tag",
+    3: "wrong length",
+    4: "unknown kind",
+    5: "out of range",
+    6: "dead process",
+    7: "taken",
+    8: "missing",
+    9: "same twice",
+    10: "no file",
+    11: "rules full",
+    12: "broken already",
+}
+
 
 class Unfit(Exception):
     """Text that is no record: what was found and what was expected."""

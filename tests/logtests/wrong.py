@@ -1,0 +1,93 @@
+"""Programs with a planted fault, made from the model: the shortcuts that document 01 names."""
+
+import compileall
+import shutil
+import sys
+from pathlib import Path
+from typing import Dict
+
+import paths
+
+# The lines that replace a part of the model.
+FAULTS: Dict[str, str] = {
+    "follows one link": """
+def reach(state, container):
+    return {c for c, links in state.distances(container).items() if links <= 1}
+tracker.State.reach = reach
+""",
+    "follows three links": """
+def reach(state, container):
+    return {c for c, links in state.distances(container).items() if links <= 3}
+tracker.State.reach = reach
+""",
+    "empties a truncated file that is mapped": """
+def truncate(state, call):
+    state.items[state.descriptors[call.process, call.a]] = frozenset()
+tracker.EFFECTS[TRUNCATE] = truncate
+""",
+    "tests rules against the written container only": """
+right_work_out = tracker.work_out
+right_broken_rules = tracker.broken_rules
+def judge_written(state, call):
+    after = right_work_out(state, call)
+    if call.kind == WRITE:
+        seen = state.copy()
+        written = state.descriptors[call.process, call.a]
+        seen.items[written] = after.items[written]
+        if not right_broken_rules(seen):
+            return tracker.ALLOW, after
+    return right_judge(state, call)
+right_judge = tracker.judge
+tracker.judge = judge_written
+""",
+    "reports the last broken rule": """
+right_broken_rules = tracker.broken_rules
+tracker.broken_rules = lambda state: right_broken_rules(state)[::-1]
+""",
+    "diverts without judging": """
+right_obstacle = tracker.divert_obstacle
+def divert_obstacle(state, call, rule):
+    found = right_obstacle(state, call, rule)
+    return None if found == "diverted write breaks a rule" else found
+tracker.divert_obstacle = divert_obstacle
+""",
+    "leaves a dead process's links": """
+right_exit = tracker.EFFECTS[EXIT]
+def exit_process(state, call):
+    links = state.links
+    right_exit(state, call)
+    state.links = links
+tracker.EFFECTS[EXIT] = exit_process
+""",
+}
+
+PROGRAM = """#!{python} -S
+import sys
+sys.path.insert(0, {model!r})
+import tracker
+from limits import EXIT, LOG_LIMIT, TRUNCATE, WRITE
+{fault}
+log = sys.stdin.buffer.read(LOG_LIMIT + 1)
+if len(log) > LOG_LIMIT:
+    print("log too long")
+else:
+    print("".join(f"{{answer}}\\n" for answer in tracker.Tracker().run_log(log)), end="")
+"""
+
+
+def copied_model(folder: Path) -> Path:
+    """A copy of the model, compiled once, so that a program over it starts quickly."""
+    if not folder.is_dir():
+        folder.mkdir()
+        for name in ("limits.py", "records.py", "tracker.py"):
+            shutil.copy(paths.ROOT / "model" / name, folder)
+        compileall.compile_dir(str(folder), quiet=1)
+    return folder
+
+
+def make_program(path: Path, fault: str = "") -> str:
+    """Write a program that answers as the model, but for a fault."""
+    model = copied_model(path.parent / "model")
+    path.write_text(PROGRAM.format(python=sys.executable, model=str(model), fault=fault))
+    path.chmod(0o755)
+    return str(path)

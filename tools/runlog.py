@@ -1,0 +1,402 @@
+"""The command ./runlog: a log in, the program's answers out.
+
+The answers are those of the program, target/bin/runlog, in every case. The
+model is used for the limits and the form of records only.
+"""
+
+import argparse
+import os
+import shutil
+import signal
+import stat
+import subprocess
+import sys
+import textwrap
+from collections import Counter
+from pathlib import Path
+from typing import BinaryIO, List, NamedTuple, NoReturn, Optional
+
+sys.dont_write_bytecode = True
+
+import modelpath  # noqa: E402
+from limits import LOG_LIMIT  # noqa: E402
+from logtext import (  # noqa: E402
+    REFUSAL_WORDS,
+    BadLine,
+    assemble,
+    assemble_line,
+    record_text,
+    split_records,
+)
+
+ROOT = Path(modelpath.ROOT)
+PROGRAM = ROOT / "target" / "bin" / "runlog"
+STORY = ROOT / "logs" / "rowers.log.txt"
+BUILD = ["rt", "check", "runlog"]
+SOURCES = ("src", "specs", "proofs")  # of a crate
+STANDARD = "-"
+SHOWN_BYTES = 16  # of a raw value in --show
+ANSWER_WIDTH = 11
+RECORD_WIDTH = 43
+WIDEST = 120
+
+TOO_LONG = 1
+BAD_INPUT = 2
+NO_PROGRAM = 3
+
+DESCRIPTION = "Run a log and print what each record gets. Without FILE: a demonstration."
+REFUSAL_LINES = "\n".join(f"    {number:>2}  {word}" for number, word in REFUSAL_WORDS.items())
+EPILOG = f"""what goes in:
+  A log is a row of records: one tag byte, two bytes of length (high byte first),
+  the value. At most {LOG_LIMIT:,} bytes.
+  tag 10 hex, length 5    a call: kind (1 to 19), process, a, b, c, a byte each
+  tag 11 hex, length 11   a rule: an item, eight bytes of a container set (high byte
+                          first, bit i is container i), action, substitute. It is
+                          broken when a container of the set holds the item
+  tag 12 hex, length 4    a rule: two items, action, substitute. It is broken when
+                          one container holds both
+  tag 13 hex, length 11   a rule as 11 hex, broken when a container outside the set
+                          holds the item
+  Action 0 inhibits, with substitute 0. Action 1 diverts a write to the substitute.
+  Logs are easier to write as text: logs/ has some, and tools/logtool --help has the
+  grammar, with a line for each kind of call. README.md leads to everything else.
+
+what comes out, a line for each record:
+  allow                   the call is done
+  inhibit RULE            nothing is done: the call would break this rule
+  modify RULE SUBSTITUTE  the write would break this rule and goes to the substitute
+  rule NUMBER             the rule is loaded and has this number
+  refused NUMBER          nothing is done, for this reason:
+{REFUSAL_LINES}
+  After 'refused 1' reading ends. An empty log gives no line. For a log of more than
+  {LOG_LIMIT:,} bytes there is one line, 'log too long'.
+
+limits:
+  containers 0 to 63 (devices 0 to 7, processes 8 to 23, files and pipes 24 to 63),
+  items 0 to 63, processes 0 to 15, names 0 to 127, descriptors 0 to 31 in each
+  process, 32 rules
+
+exit status:
+  0  the log was run, whatever the answers are
+  1  the log is too long
+  2  the command line, the file or the text cannot be used
+  3  the program is missing and could not be built, or it failed
+
+examples:
+  ./runlog
+  ./runlog logs/run-b.log.txt
+  ./runlog --show logs/evaluation.log.txt
+  tools/logtool assemble logs/run-b.log.txt | ./runlog -
+"""
+
+WORDS = """Each record goes to the program, and the program's answer stands in front of it:
+allow: the call is done. rule 0: the rule is loaded, as number 0.
+inhibit 0: the call is not done, because rule 0 would be broken. These are marked with *."""
+
+NEXT = """Try next:
+  ./runlog logs/rowers.log.txt              the same log, the program's lines alone
+  ./runlog --show logs/run-b.log.txt        a write that a rule diverts, and two refusals
+  ./runlog --show logs/evaluation.log.txt   copies, a move, an upload and a combination
+  tools/logtool graph logs/rowers.log.txt -o rowers.svg
+                                            the state after the log as a picture
+  ./runlog --help                           what goes in and what comes out"""
+
+
+class Failure(Exception):
+    """What went wrong and what to do about it, with the exit status."""
+
+    def __init__(self, status: int, message: str) -> None:
+        super().__init__(message)
+        self.status = status
+
+
+def say(message: str) -> None:
+    """A message on standard error."""
+    print(f"runlog: {message}", file=sys.stderr, flush=True)
+
+
+# The log.
+
+
+class Log(NamedTuple):
+    """A log: no more bytes than the program needs to see, and how many there are."""
+
+    data: bytes
+    size: str  # in words
+    text: Optional[bytes] = None  # the readable text that it comes from
+
+    @property
+    def too_long(self) -> bool:
+        """Whether the program answers 'log too long'."""
+        return len(self.data) > LOG_LIMIT
+
+
+def size_of(file: BinaryIO, data: bytes) -> str:
+    """How many bytes an input has; only a regular file is known to its end."""
+    status = os.fstat(file.fileno())
+    if len(data) > LOG_LIMIT and not stat.S_ISREG(status.st_mode):
+        return f"more than {LOG_LIMIT:,} bytes"
+    return f"{max(len(data), status.st_size):,} bytes"
+
+
+def shown_name(path: str) -> str:
+    """An input's name in messages."""
+    return "standard input" if path == STANDARD else f"'{path}'"
+
+
+def read_bytes(path: str) -> Log:
+    """The bytes of a file or of standard input."""
+    if path == STANDARD:
+        if sys.stdin is None:
+            raise OSError(None, "standard input is closed")
+        data = sys.stdin.buffer.read(LOG_LIMIT + 1)
+        return Log(data, size_of(sys.stdin.buffer, data))
+    with open(path, "rb") as file:
+        data = file.read(LOG_LIMIT + 1)
+        return Log(data, size_of(file, data))
+
+
+def read_text(path: str) -> Log:
+    """The log that a readable text stands for."""
+    with open(path, "rb") as file:
+        text = file.read()
+    try:
+        data = assemble(text)
+    except BadLine as error:
+        advice = "correct the line (tools/logtool --help has the grammar)"
+        raise Failure(BAD_INPUT, f"{path}, {error}; {advice}") from error
+    return Log(data[: LOG_LIMIT + 1], f"{len(data):,} bytes as a log", text)
+
+
+def read_log(path: str) -> Log:
+    """The log of an argument."""
+    try:
+        return read_text(path) if path.endswith(".txt") else read_bytes(path)
+    except (OSError, ValueError) as error:
+        reason = getattr(error, "strerror", None) or error
+        advice = "give a file that can be read, or - for standard input"
+        message = f"cannot read {shown_name(path)}: {reason}; {advice}"
+        raise Failure(BAD_INPUT, message) from error
+
+
+# The program.
+
+
+def is_outdated(program: Path) -> bool:
+    """Whether a file that the program may depend on is newer than it."""
+    built = program.stat().st_mtime
+    files = (file for part in SOURCES for file in ROOT.glob(f"crates/*/{part}/**/*"))
+    return any(file.is_file() and file.stat().st_mtime > built for file in files)
+
+
+def build() -> None:
+    """Prove and build the program; what rt reports goes to standard error."""
+    command = " ".join(BUILD)
+    say(f"building the program ({command}): its proofs are checked, which may take some minutes")
+    with subprocess.Popen(BUILD, cwd=ROOT, stdout=subprocess.PIPE, stderr=subprocess.STDOUT) as run:
+        for line in run.stdout or []:
+            if line.startswith(b"rt: ") or b"error" in line:
+                sys.stderr.write(line.decode(errors="replace"))
+                sys.stderr.flush()
+    if run.returncode != 0 or not PROGRAM.is_file():
+        again = "correct what it reports (target/log/ has all of it) and run ./runlog again"
+        raise Failure(NO_PROGRAM, f"{command} ended with status {run.returncode}; {again}")
+    os.utime(PROGRAM)  # rt leaves a program as it is if nothing in its sources differs
+
+
+def ready_program(chosen: Optional[str]) -> Path:
+    """The program to run: the chosen one, or the repository's, built if need be."""
+    if chosen is not None:
+        return Path(chosen).absolute()
+    found = PROGRAM.is_file()
+    if found and not is_outdated(PROGRAM):
+        return PROGRAM
+    if shutil.which(BUILD[0]):
+        build()
+    elif found:
+        say("the command rt is missing: the program is run as it is, older than files of crates/")
+    else:
+        advice = "install the Rattle kit, and put its bin/ on the PATH"
+        raise Failure(NO_PROGRAM, f"no program is built, and the command rt is missing: {advice}")
+    return PROGRAM
+
+
+def run_program(program: Path, log: Log, output: Optional[int]) -> bytes:
+    """Run the program on a log; what it writes, if the output is a pipe."""
+    try:
+        run = subprocess.run([str(program)], input=log.data, stdout=output)
+    except OSError as error:
+        raise Failure(NO_PROGRAM, f"cannot run '{program}': {error.strerror}") from error
+    if run.returncode == -signal.SIGPIPE:
+        raise BrokenPipeError
+    if run.returncode != 0 and not log.too_long:
+        raise Failure(NO_PROGRAM, f"'{program}' ended with status {run.returncode}")
+    return run.stdout or b""
+
+
+def answers_of(program: Path, log: Log) -> List[str]:
+    """The lines that the program writes."""
+    lines = run_program(program, log, subprocess.PIPE).decode("ascii", "replace").splitlines()
+    count = 1 if log.too_long else len(split_records(log.data))
+    if len(lines) != count:
+        raise Failure(NO_PROGRAM, f"'{program}' wrote {len(lines)} lines for {count} records")
+    return lines
+
+
+# Answers beside their records.
+
+
+class Row(NamedTuple):
+    """A line of a text: a record with its comment, or a comment alone."""
+
+    record: bytes
+    comment: str
+
+
+def rows_of(log: Log) -> List[Row]:
+    """The rows of a log; without comments if the text's lines are not its records."""
+    records = split_records(log.data)
+    if log.text is not None:
+        rows = []
+        for line in log.text.decode("utf-8-sig").rstrip().split("\n"):
+            rows.append(Row(assemble_line(line), line.partition("#")[2][1:].rstrip()))
+        if [row.record for row in rows if row.record] == records:
+            return rows
+    return [Row(record, "") for record in records]
+
+
+def line_width() -> int:
+    """How wide lines may be."""
+    return min(WIDEST, shutil.get_terminal_size((WIDEST, 24)).columns)
+
+
+def answer_text(answer: str) -> str:
+    """An answer, a refusal with the bench's word."""
+    word, _, number = answer.partition(" ")
+    if word == "refused" and number.isdigit() and int(number) in REFUSAL_WORDS:
+        return f"{answer} ({REFUSAL_WORDS[int(number)]})"
+    return answer
+
+
+def record_lines(answer: str, row: Row, answers: int) -> List[str]:
+    """A record with its answer in front and its comment behind, in lines of the width."""
+    mark = "*" if answer.startswith("inhibit") else " "
+    front = f"{mark} {answer_text(answer):<{answers}}  {record_text(row.record, SHOWN_BYTES)}"
+    if not row.comment:
+        return [front]
+    column = answers + RECORD_WIDTH + 5
+    width = max(30, line_width() - column)
+    first, *rest = textwrap.wrap(row.comment, width)
+    return [f"{front:<{column - 1}} {first}", *(" " * column + line for line in rest)]
+
+
+def show(rows: List[Row], answers: List[str]) -> None:
+    """Print records beside their answers, with the comments between and behind them."""
+    left = iter(answers)
+    width = max([ANSWER_WIDTH, *(len(answer_text(answer)) for answer in answers)])
+    for row in rows:
+        if row.record:
+            print("\n".join(record_lines(next(left), row, width)))
+        else:
+            print(row.comment)
+
+
+def show_log(program: Path, log: Log) -> None:
+    """Each record beside its answer."""
+    answers = answers_of(program, log)
+    if log.too_long:
+        print(answers[0])
+        return
+    show(rows_of(log), answers)
+
+
+# The demonstration.
+
+
+def head_text(head: bytes) -> str:
+    """The comment at the head of a text, up to where it speaks of the answers."""
+    lines = head.partition(b"# Answers:")[0].decode().splitlines()
+    return "\n".join(line[2:] for line in lines)
+
+
+def demonstrate(program: Path) -> None:
+    """The story of the two rowers, with the program's answers."""
+    log = read_log(str(STORY))
+    head, _, body = (log.text or b"").partition(b"\n\n")
+    answers = answers_of(program, log)
+    print(f"A demonstration: the log {STORY.relative_to(ROOT)}.\n\n{head_text(head)}\n\n{WORDS}\n")
+    show(rows_of(log._replace(text=body)), answers)
+    words = Counter(answer.split()[0] for answer in answers)
+    counts = ", ".join(f"{count} {word}" for word, count in words.items())
+    print(f"\n{len(answers)} records: {counts}.\n\n{NEXT}")
+
+
+# The command line.
+
+
+class Parser(argparse.ArgumentParser):
+    """A parser whose errors say what to do."""
+
+    def error(self, message: str) -> NoReturn:
+        """Say what is wrong with the command line, and end."""
+        say(f"{message}; give one FILE, - for standard input, or nothing: ./runlog --help")
+        sys.exit(BAD_INPUT)
+
+
+def make_parser() -> Parser:
+    """The parser of the command line."""
+    parser = Parser(
+        prog="./runlog",
+        description=DESCRIPTION,
+        epilog=EPILOG,
+        formatter_class=argparse.RawDescriptionHelpFormatter,
+        allow_abbrev=False,
+    )
+    file_help = "the bytes of a log; - is standard input; NAME.txt is a readable text"
+    parser.add_argument("file", metavar="FILE", nargs="?", help=file_help)
+    parser.add_argument("--show", action="store_true", help="print each record beside its answer")
+    program_help = "run this program, and build none; if not given: target/bin/runlog"
+    parser.add_argument("--program", metavar="PATH", help=program_help)
+    return parser
+
+
+def run(arguments: argparse.Namespace) -> int:
+    """Do what the command line says; the exit status."""
+    if arguments.file is None:
+        demonstrate(ready_program(arguments.program))
+        return 0
+    log = read_log(arguments.file)
+    program = ready_program(arguments.program)
+    if arguments.show:
+        show_log(program, log)
+    else:
+        run_program(program, log, None)
+    sys.stdout.flush()
+    if log.too_long:
+        name = shown_name(arguments.file)
+        say(f"{name} has {log.size}; a log has at most {LOG_LIMIT:,}: give a shorter one")
+        return TOO_LONG
+    return 0
+
+
+def main(words: List[str]) -> int:
+    """Run the command; the exit status."""
+    if sys.stdout is None:
+        say("standard output is closed; open it")
+        return BAD_INPUT
+    try:
+        status = run(make_parser().parse_args(words))
+        sys.stdout.flush()
+        return status
+    except Failure as failure:
+        say(str(failure))
+        return failure.status
+    except BrokenPipeError:
+        os.dup2(os.open(os.devnull, os.O_WRONLY), sys.stdout.fileno())
+        return 128 + signal.SIGPIPE
+    except KeyboardInterrupt:
+        return 128 + signal.SIGINT
+
+
+if __name__ == "__main__":
+    sys.exit(main(sys.argv[1:]))
