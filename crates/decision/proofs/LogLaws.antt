@@ -100,7 +100,7 @@ pub log-answers : (s : State) (log : List ℕ) → length (runLog s log .answers
 unfolding runLog
 log-answers s log = answers-length s (recordsOf log)
 
-codes-length : (l : List Word) → length (codesOf l) ≡ length l
+pub codes-length : (l : List Word) → length (codesOf l) ≡ length l
 unfolding codesOf
 codes-length [] = refl
 codes-length (a ∷ l) = ap suc (codes-length l)

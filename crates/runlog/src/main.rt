@@ -1,0 +1,135 @@
+// Runs a log (document 01, Runs to check, B). Standard input is the log, at most 65,536 bytes; above that only `log too long` is written. A
+// line is written for each record: the word of its answer, then the numbers.
+ghost use mathlib.Core.Path.{_≡_};
+ghost use Prim.Native.Nat.{ℕ, _≤_};
+ghost use lib.ListN.{length, take};
+ghost use Rattle.flow.specs.Box.{logLimit, fresh};
+ghost use Rattle.flow.specs.Verdicts.{runLog};
+ghost use Rattle.flow.specs.Queries.{result};
+ghost use Rattle.tracker.specs.Replies.{replyOf};
+ghost use Rattle.decision.specs.Logs.{codesOf};
+ghost use Rattle.runlog.specs.Limits.{recordLimit};
+use decision::Monitor;
+use libc::STDIN_FILENO;
+use libc::STDOUT_FILENO;
+use tracker::queries::Reply;
+
+// Puts b at `at`, if there is room, and answers where the next byte goes.
+fn put(out: &mut [u8], at: usize, b: u8) -> usize {
+    if at < out.len() {
+        out[at] = b;
+        return at + 1;
+    }
+    at
+}
+
+// Puts a text at `at`.
+fn put_text(out: &mut [u8], at: usize, text: &[u8]) -> usize {
+    let mut next = at;
+    for i in 0..text.len() {
+        next = put(out, next, text[i]);
+    }
+    next
+}
+
+// Puts the decimal digits of n at `at`.
+fn put_number(out: &mut [u8], at: usize, n: u64) -> usize {
+    let mut digits = [0u8; 20];
+    let k = io::decimal(n, &mut digits);
+    put_text(out, at, &digits[..k])
+}
+
+// Puts a line of a word and one number.
+fn put_line(out: &mut [u8], at: usize, word: &[u8], n: u32) -> usize {
+    let mut next = put_text(out, at, word);
+    next = put_number(out, next, n as u64);
+    put(out, next, b'\n')
+}
+
+// Puts the line of an answer at `at`.
+fn put_answer(out: &mut [u8], at: usize, code: u32) -> usize {
+    let word = code % 256;
+    let first = code / 256 % 256;
+    let second = code / 65536 % 256;
+    if word == 0 {
+        return put_text(out, at, b"allow\n");
+    }
+    if word == 1 {
+        return put_line(out, at, b"inhibit ", first);
+    }
+    if word == 3 {
+        return put_line(out, at, b"rule ", first);
+    }
+    if word == 4 {
+        return put_line(out, at, b"refused ", first);
+    }
+    let mut next = put_text(out, at, b"modify ");
+    next = put_number(out, next, first as u64);
+    put_line(out, next, b" ", second)
+}
+
+// Writes what stands in the buffer before `at`.
+fn flush(out: &[u8], at: usize) {
+    if at <= out.len() {
+        io::write_all(STDOUT_FILENO, &out[..at]);
+    }
+}
+
+// Writes a line for each answer.
+fn print_answers(codes: &[u32]) {
+    let mut buffer = io::buffer();
+    let out: &mut [u8] = &mut buffer;
+    let mut at = 0usize;
+    for k in 0..codes.len() {
+        at = put_answer(out, at, codes[k]);
+        if 4000 < at {
+            flush(out, at);
+            at = 0;
+        }
+    }
+    flush(out, at);
+}
+
+// The number of answers.
+fn number(reply: Reply) -> usize
+    ensures { λ r. ⌜ ((n : ℕ) → replyOf reply ≡ result n → r ≡ n) ⌝ }
+{
+    match reply {
+        Reply::Result(n) => n as usize,
+        Reply::Refused(n) => 0,
+    }
+}
+
+// The answers to the records of a log on a fresh monitor, at the front of `codes`, and how many they are.
+fn answers(log: &[u8], codes: &mut [u32]) -> usize
+    ensures { λ r. ⌜ (length (now (log .entry)) ≤ logLimit → recordLimit ≤ length (now (codes .entry)) → take r (now (codes .exit)) ≡ codesOf (runLog fresh (now (log .entry)) .answers)) ⌝ }
+{
+    let m = Monitor::new();
+    let ran = m.run(log, codes);
+    let reply = ran.reply;
+    number(reply)
+}
+
+// Whether the input goes on after the 65,536 bytes that were read.
+fn goes_on(n: usize) -> bool {
+    if n < 65536 {
+        return false;
+    }
+    let mut more = [0u8; 1];
+    io::read_full(STDIN_FILENO, &mut more) != 0
+}
+
+fn main() {
+    let mut input = io::large_buffer();
+    let n = io::read_full(STDIN_FILENO, &mut input);
+    if goes_on(n) {
+        io::write_all(STDOUT_FILENO, b"log too long\n");
+        return;
+    }
+    // A log of 65,536 bytes has at most 21,846 records.
+    let mut codes = [0u32; 21846];
+    let k = answers(&input[..n], &mut codes);
+    if k <= 21846 {
+        print_answers(&codes[..k]);
+    }
+}
