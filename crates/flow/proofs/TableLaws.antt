@@ -3,13 +3,13 @@ use Prim.Native.Nat.{ℕ, zero, suc, _+_, _≤_, _<_}
 use native.Mathlib.Omega.{arith}
 use native.Mathlib.Nat.{not-suc-le-zero, le-of-suc-le-suc}
 use native.Mathlib.Decide.{ℕ-discrete, decLt}
-use mathlib.Core.Path.{_≡_, refl, ap, _∙_}
+use mathlib.Core.Path.{_≡_, refl, sym, ap, _∙_}
 use mathlib.Core.Bool.{Bool, true, false}
 use mathlib.Core.List.{List, [], _∷_}
 use mathlib.Core.Option.{none, some}
 use lib.Dec.{ltb, eqb}
 use lib.ListN.{getD, length, set}
-use lib.Seq.{getD-set-same, getD-set-other, set-out}
+use lib.Seq.{getD-set-same, getD-set-other, set-out, ext-getD}
 use borrow.Author.Tests.{ltb-true, ltb-false, eq-eqb}
 use Rattle.flow.specs.Tables.{tableFrom, table, someBelow, isIn, Test, _⇒_, firstThat}
 use Rattle.flow.proofs.Bools.{by, no-both, choice}
@@ -25,6 +25,19 @@ unfolding table
 table-at n f i d h = tableFrom-at n 0 f i d h ∙ ap f (omega arith)
 
 -- ---- some and none below n
+tableFrom-length : {A : Type 0} (n k : ℕ) (f : ℕ → A) → length (tableFrom n k f) ≡ n
+unfolding tableFrom
+tableFrom-length zero k f = refl
+tableFrom-length (suc n) k f = ap suc (tableFrom-length n (suc k) f)
+
+pub table-length : {A : Type 0} (n : ℕ) (f : ℕ → A) → length (table n f) ≡ n
+unfolding table
+table-length n f = tableFrom-length n 0 f
+
+-- a list of n elements is the table of them
+pub is-table : (n : ℕ) (f : ℕ → ℕ) (l : List ℕ) → length l ≡ n → ((i : ℕ) → i < n → getD l i 0 ≡ f i) → l ≡ table n f
+is-table n f l e h = ext-getD 0 l (table n f) (e ∙ sym (table-length n f)) (λ i b. let m : i < n = omega arith in h i m ∙ sym (table-at n f i 0 m))
+
 pub some-of : (n : ℕ) (f : ℕ → Bool) (i : ℕ) → i < n → f i ≡ true → someBelow n f ≡ true
 unfolding someBelow
 some-of zero f i h e = absurd (not-suc-le-zero h)

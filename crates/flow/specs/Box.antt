@@ -34,10 +34,11 @@ nameCount = 128
 abbrev pub descriptorCount : ℕ
 descriptorCount = 32
 
+-- rules have the numbers 0 to 31 (01, The records)
 abbrev pub ruleCount : ℕ
 ruleCount = 32
 
--- the greatest length of a log that the program reads
+-- the greatest length of a log that the program reads (01, Runs to check, B)
 abbrev pub logLimit : ℕ
 logLimit = 65536
 

@@ -11,10 +11,10 @@ use lib.Seq.{drop-cons}
 use borrow.Author.Tests.{ltb-false, not-false, eqb-true, eqb-false, eq-eqb, ne-eqb}
 use Rattle.flow.specs.Tables.{tableFrom, _⇒_, firstThat}
 use Rattle.flow.specs.Box.{forbid, separate, confine, Rule}
-use Rattle.flow.specs.Records.{byteAt, tagOf, callTag, forbidTag, separateTag, statedLength, recordLength, valueOf, cutShort, knownTag, tagLength, wrongLength, kindOf, callIn, callFrom, callOf, numberFrom, setIn, ruleWith, ruleOf}
+use Rattle.flow.specs.Records.{byteAt, tagOf, callTag, forbidTag, separateTag, statedLength, recordLength, valueOf, cutShort, knownTag, tagLength, wrongLength, numberFrom, setIn, ruleWith, ruleOf}
 use Rattle.flow.proofs.Bools.{chosen-l, chosen-r}
 use Rattle.flow.proofs.TableLaws.{AllFalse, all-false}
-use Rattle.records.specs.Reading.{unreadable, aCall, aRule, frameTests, readingBy, reading, refusalOf}
+use Rattle.records.specs.Reading.{unreadable, aCall, aRule, frameTests, callFields, readingBy, reading, refusalOf}
 
 -- the three tests, each by its value
 pub framed : (bytes : List ℕ) (x y z : Bool) → cutShort bytes ≡ x → knownTag (tagOf bytes) ≡ y → wrongLength bytes ≡ z
@@ -59,7 +59,7 @@ module _ (bytes : List ℕ) (whole : firstThat (frameTests bytes) ≡ none) wher
       let fits : 3 + statedLength bytes ≤ length bytes = ltb-false _ _ (frame .0) in
       rw stated (part n 3 bytes (omega arith))
 
-  reads-call : eqb (tagOf bytes) callTag ≡ true → reading bytes ≡ aCall (callOf bytes)
+  reads-call : eqb (tagOf bytes) callTag ≡ true → reading bytes ≡ callFields (valueOf bytes)
   unfolding reading readingBy
   reads-call e = ap (readingBy bytes) whole ∙ chosen-l (eqb (tagOf bytes) callTag) _ _ e
 
@@ -67,14 +67,11 @@ module _ (bytes : List ℕ) (whole : firstThat (frameTests bytes) ≡ none) wher
   unfolding reading readingBy
   reads-rule e = ap (readingBy bytes) whole ∙ chosen-r (eqb (tagOf bytes) callTag) _ _ e
 
-  pub call-read : tagOf bytes ≡ callTag → reading bytes ≡ aCall (callFrom (byteAt bytes 3) (byteAt bytes 4) (byteAt bytes 5) (byteAt bytes 6) (byteAt bytes 7))
-  unfolding callOf callFrom tableFrom tagLength byteAt
+  pub call-read : tagOf bytes ≡ callTag → reading bytes ≡ aCall (byteAt bytes 3) (byteAt bytes 4) (byteAt bytes 5) (byteAt bytes 6) (byteAt bytes 7)
+  unfolding callFields tableFrom tagLength byteAt
   call-read e =
       let is : eqb (tagOf bytes) callTag ≡ true = eq-eqb (tagOf bytes) callTag e in
-      reads-call is
-      ∙ ap aCall
-      (chosen-l (eqb (tagOf bytes) callTag && not (cutShort bytes) && not (wrongLength bytes)) _ none (rw (is, frame .0, frame .1))
-      ∙ ap (λ (v : List ℕ). callIn v (kindOf (byteAt v 0))) (value 5 (rw e)))
+      reads-call is ∙ ap callFields (value 5 (rw e))
 
   -- a rule, once its tag is told
   rule-read : (n : ℕ) (f : List ℕ → Rule) → (tagOf bytes ≡ callTag → ⊥) → n ≡ tagLength (tagOf bytes) → ruleOf bytes ≡ f (valueOf bytes)

@@ -12,18 +12,18 @@ use lib.Seq.{take-length, drop-length, getD-take, length-take-le, take-add, drop
 use borrow.Author.Tests.{ltb-false, le-ltb}
 use Rattle.flow.specs.Tables.{Test, _⇒_, firstThat}
 use Rattle.flow.specs.Box.{State}
-use Rattle.flow.specs.Calls.{Call}
-use Rattle.flow.specs.Records.{byteAt, tagOf, callTag, statedLength, recordLength, valueOf, cutShort, knownTag, wrongLength, callOf, ruleOf, recordsIn, recordsOf}
+use Rattle.flow.specs.Calls.{Kind, Call}
+use Rattle.flow.specs.Records.{byteAt, tagOf, callTag, statedLength, recordLength, valueOf, cutShort, knownTag, wrongLength, kindOf, callIn, callFrom, callOf, ruleOf, recordsIn, recordsOf}
 use Rattle.flow.specs.Refusals.{callTests, ruleTests, testsByTag, recordTests, refusal}
 use Rattle.flow.specs.Verdicts.{accepted, outcomeBy, outcome, answer, next, answerAll, runLog}
-use Rattle.flow.proofs.Bools.{choice, choices, chosen-r}
-use Rattle.records.specs.Reading.{Reading, aCall, aRule, frameTests, readingBy, reading, extentOf, outcomeOfCall, outcomeOfRule, outcomeOf}
+use Rattle.flow.proofs.Bools.{choice, choices, chosen-l, chosen-r}
+use Rattle.records.specs.Reading.{Reading, aRule, frameTests, callFields, readingBy, reading, extentOf, outcomeOfCall, outcomeOfRule, outcomeOf}
 use Rattle.records.proofs.Frames.{framed}
 
 -- ---- what a record gets
 module _ (s : State) (bytes : List ℕ) where
-  of-call : (q : Option Call) → callOf bytes ≡ q → outcomeBy s bytes (firstThat (callTests s q)) ≡ outcomeOf s (aCall q)
-  unfolding outcomeOf outcomeOfCall outcomeBy accepted callTests firstThat
+  of-call : (q : Option Call) → callOf bytes ≡ q → outcomeBy s bytes (firstThat (callTests s q)) ≡ outcomeOfCall s q (firstThat (callTests s q))
+  unfolding outcomeOfCall outcomeBy accepted callTests firstThat
   of-call none e = refl
   of-call (some q) e = by-test (firstThat (callTests s (some q)))
     where
@@ -37,24 +37,36 @@ module _ (s : State) (bytes : List ℕ) where
   of-rule e (some n) = refl
   of-rule e none = ap (accepted s bytes) (chosen-r (eqb (tagOf bytes) callTag && not (cutShort bytes) && not (wrongLength bytes)) _ none (rw e refl))
 
-  by-tag : (b : Bool) → eqb (tagOf bytes) callTag ≡ b
-      → outcomeBy s bytes (firstThat (elim b as (λ z. List Test) [ true ↦ callTests s (callOf bytes) | false ↦ ruleTests s (ruleOf bytes) ]))
-      ≡ outcomeOf s (elim b as (λ z. Reading) [ true ↦ aCall (callOf bytes) | false ↦ aRule (ruleOf bytes) ])
-  unfolding outcomeOf
-  by-tag true e = of-call (callOf bytes) refl
-  by-tag false e = of-rule e (firstThat (ruleTests s (ruleOf bytes)))
+  -- the call in a whole record, by its five fields
+  by-fields : (v : List ℕ) → callIn v (kindOf (byteAt v 0)) ≡ callFrom (byteAt v 0) (byteAt v 1) (byteAt v 2) (byteAt v 3) (byteAt v 4)
+  unfolding callFrom callIn byteAt
+  by-fields v = go (kindOf (byteAt v 0))
+    where
+      go : (o : Option Kind) → callIn v o ≡ callIn (byteAt v 0 ∷ byteAt v 1 ∷ byteAt v 2 ∷ byteAt v 3 ∷ byteAt v 4 ∷ []) o
+      go none = refl
+      go (some k) = refl
 
-  by-frame : (x y z : Bool)
+  by-tag : (b : Bool) → eqb (tagOf bytes) callTag ≡ b → cutShort bytes ≡ false → wrongLength bytes ≡ false
+      → outcomeBy s bytes (firstThat (elim b as (λ z. List Test) [ true ↦ callTests s (callOf bytes) | false ↦ ruleTests s (ruleOf bytes) ]))
+      ≡ outcomeOf s (elim b as (λ z. Reading) [ true ↦ callFields (valueOf bytes) | false ↦ aRule (ruleOf bytes) ])
+  unfolding outcomeOf callFields callOf
+  by-tag true e c w =
+      let q : callOf bytes ≡ callFrom (byteAt (valueOf bytes) 0) (byteAt (valueOf bytes) 1) (byteAt (valueOf bytes) 2) (byteAt (valueOf bytes) 3) (byteAt (valueOf bytes) 4) =
+      chosen-l (eqb (tagOf bytes) callTag && not (cutShort bytes) && not (wrongLength bytes)) _ none (rw (e, c, w) refl) ∙ by-fields (valueOf bytes) in
+      ap (λ (o : Option Call). outcomeBy s bytes (firstThat (callTests s o))) q ∙ of-call _ q
+  by-tag false e c w = of-rule e (firstThat (ruleTests s (ruleOf bytes)))
+
+  by-frame : (x y z : Bool) → cutShort bytes ≡ x → wrongLength bytes ≡ z
       → outcomeBy s bytes (firstThat ((x ⇒ 1) ∷ (y ⇒ 2) ∷ (z ⇒ 3) ∷ testsByTag s bytes)) ≡ outcomeOf s (readingBy bytes (firstThat ((x ⇒ 1) ∷ (y ⇒ 2) ∷ (z ⇒ 3) ∷ [])))
   unfolding firstThat outcomeBy outcomeOf readingBy testsByTag
-  by-frame true y z = refl
-  by-frame false true z = refl
-  by-frame false false true = refl
-  by-frame false false false = by-tag (eqb (tagOf bytes) callTag) refl
+  by-frame true y z c w = refl
+  by-frame false true z c w = refl
+  by-frame false false true c w = refl
+  by-frame false false false c w = by-tag (eqb (tagOf bytes) callTag) refl c w
 
   pub outcome-reading : outcome s bytes ≡ outcomeOf s (reading bytes)
   unfolding outcome refusal recordTests reading frameTests
-  outcome-reading = by-frame (cutShort bytes) (not (knownTag (tagOf bytes))) (wrongLength bytes)
+  outcome-reading = by-frame (cutShort bytes) (not (knownTag (tagOf bytes))) (wrongLength bytes) refl refl
 
 -- ---- the length of the record at the front
 pub extent-positive : (bytes : List ℕ) → 0 < length bytes → 1 ≤ extentOf bytes
@@ -68,7 +80,7 @@ extent-le bytes = choice (λ (e : ℕ). e ≤ length bytes) (cutShort bytes) _ _
 -- ---- the record at the front reads the same without what follows it
 -- a reading goes by the tag, the tests of the frame and the value
 by-parts : (t b : List ℕ) → tagOf t ≡ tagOf b → cutShort t ≡ cutShort b → wrongLength t ≡ wrongLength b → valueOf t ≡ valueOf b → reading t ≡ reading b
-unfolding reading readingBy frameTests callOf ruleOf
+unfolding reading readingBy frameTests ruleOf
 by-parts t b e f g h = ap (readingBy t) (framed t _ _ _ f (ap knownTag e) g) ∙ by-test (firstThat (frameTests b))
   where
     by-test : (o : Option ℕ) → readingBy t o ≡ readingBy b o

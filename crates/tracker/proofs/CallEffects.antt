@@ -16,7 +16,7 @@ use Rattle.flow.specs.Box.{isDevice, isFile, own, leads, closed, slot, descript
 use Rattle.flow.specs.Links.{reach, given, mapped, used}
 use Rattle.flow.specs.Calls.{Kind, start, openName, create, pipe, device, dup, close, read, write, truncate, mapRead, mapBoth, unmap, unlink, rename, link, fork, exit, label, Flow, still, gift, arrival, clear, Change, withItems, withLive, withDescriptors, withNames, withLinks, putBlock, block, isFed, tablesBy, flowBy, change, moved, after}
 use Rattle.flow.proofs.Bools.{or-elim, or-l, or-r, and-l, and-r, and-i, or-false-l, or-false-r, and-false-l, by, no-both}
-use Rattle.flow.proofs.TableLaws.{some-of, is-in, set-cases}
+use Rattle.flow.proofs.TableLaws.{table-length, some-of, is-in, set-cases}
 use Rattle.flow.proofs.Reach.{process-range}
 use Rattle.flow.proofs.Rows.{leads-lt, more-live, still-live}
 use Rattle.flow.proofs.Use.{used-leads, used-open, used-mapped, used-process}
@@ -24,7 +24,6 @@ use Rattle.tracker.specs.Marks.{fileSet, files, filesIn, released}
 use Rattle.tracker.specs.View.{state, tables}
 use Rattle.tracker.specs.Worked.{call}
 use Rattle.tracker.proofs.LookupLaws.{filesIn-has, filesIn-file}
-use Rattle.tracker.proofs.Spreading.{table-length}
 use Rattle.tracker.proofs.Effects.{isIn-set, isIn-stored, block-in, put-kept, files-has, fileSet-has, fileSet-not, some-at, used-kept, none-ended, freed, moved-clear, moved-copy}
 
 file-leads : (c : ℕ) → isFile c ≡ true → leads c ≡ true

@@ -16,11 +16,10 @@ use Rattle.flow.specs.Box.{isDevice, isProcess, isFile, closed, slot, descripto
 use Rattle.flow.specs.Links.{mapped, used}
 use Rattle.flow.specs.Calls.{still, copy, clear, Change, withItems, putBlock, block, moved, ended, after}
 use Rattle.flow.proofs.Bools.{or-elim, or-l, or-r, and-i, by, no-both, choice, chosen-l, chosen-r}
-use Rattle.flow.proofs.TableLaws.{table-at}
+use Rattle.flow.proofs.TableLaws.{table-at, table-length, is-table}
 use Rattle.tracker.specs.Marks.{fileSet, files, cleared, released}
 use Rattle.tracker.specs.View.{tables}
 use Rattle.tracker.proofs.LookupLaws.{isIn-cons}
-use Rattle.tracker.proofs.Spreading.{is-table, table-length}
 
 -- ---- lists
 -- an element after `set`, as a choice

@@ -4,17 +4,13 @@ use native.Mathlib.Omega.{arith}
 use native.Mathlib.Nat.{mod-eq-of-lt}
 use mathlib.Core.Path.{_≡_, refl, sym, ap, _∙_}
 use mathlib.Core.List.{List}
-use lib.ListN.{getD, length}
+use lib.ListN.{getD}
 use Rattle.flow.specs.Box.{own, State, itemsOf, feedersOf, fedBy}
 use Rattle.flow.specs.Links.{reach, given}
 use Rattle.flow.specs.Calls.{gift, withItems, moved, after}
 use Rattle.tracker.specs.View.{links}
-use Rattle.tracker.proofs.Spreading.{table-length, reach-same}
+use Rattle.tracker.proofs.Spreading.{given-length, reach-same}
 use Rattle.tracker.proofs.Effects.{none-ended}
-
-given-length : (l : List ℕ) (r x : ℕ) → length (given l r x) ≡ 64
-unfolding given
-given-length l r x = table-length 64 _
 
 gift-after : (s : State) (g u : ℕ) → after s (record { tables = s; flow = gift g u }) ≡ withItems s (given (s .items) (reach s u) (itemsOf s g))
 unfolding moved

@@ -13,11 +13,11 @@ use Rattle.sets.proofs.Members.{those-has, none-has}
 use Rattle.flow.specs.Box.{isFile, State}
 use Rattle.flow.specs.Links.{used}
 use Rattle.flow.proofs.Bools.{and-r, by, no-both, chosen-r}
-use Rattle.flow.proofs.TableLaws.{table-at}
+use Rattle.flow.proofs.TableLaws.{table-length, is-table, table-at}
 use Rattle.tracker.specs.Marks.{fileSet, usedSet, releaseTurn, cleared, released}
 use Rattle.tracker.proofs.LookupLaws.{file-range, fileSet-has, fileSet-none, usedSet-has}
 use Rattle.tracker.proofs.Effects.{set-at}
-use Rattle.tracker.proofs.Spreading.{is-table, table-length, turns, turns-table, turn-stores}
+use Rattle.tracker.proofs.Spreading.{turns, turns-table, turn-stores}
 
 module _ (l : List ℕ) (lost : ℕ) (t : State) where
   -- a list is the items released if it has their elements

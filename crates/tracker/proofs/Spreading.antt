@@ -9,29 +9,15 @@ use mathlib.Core.Bool.{Bool, true, false, _||_}
 use mathlib.Core.List.{List}
 use lib.Dec.{eqb}
 use lib.ListN.{getD, set, length, length-set}
-use lib.Seq.{ext-getD, getD-set-same, getD-set-other, set-getD}
+use lib.Seq.{getD-set-same, getD-set-other, set-getD}
 use Rattle.sets.specs.Sets.{has, only, _∪_}
 use Rattle.sets.proofs.Members.{none-has}
-use Rattle.flow.specs.Tables.{tableFrom, table}
+use Rattle.flow.specs.Tables.{table}
 use Rattle.flow.specs.Box.{own, State, feedersOf, fedBy}
 use Rattle.flow.specs.Links.{given, meets, through, follow, settle, reach}
 use Rattle.flow.proofs.Bools.{choices, chosen-r}
-use Rattle.flow.proofs.TableLaws.{table-at}
+use Rattle.flow.proofs.TableLaws.{table-length, is-table}
 use Rattle.tracker.specs.Marks.{giveTurn, cleared}
-
--- ---- tables
-tableFrom-length : {A : Type 0} (n k : ℕ) (f : ℕ → A) → length (tableFrom n k f) ≡ n
-unfolding tableFrom
-tableFrom-length zero k f = refl
-tableFrom-length (suc n) k f = ap suc (tableFrom-length n (suc k) f)
-
-pub table-length : {A : Type 0} (n : ℕ) (f : ℕ → A) → length (table n f) ≡ n
-unfolding table
-table-length n f = tableFrom-length n 0 f
-
--- a list of n elements is the table of them
-pub is-table : (n : ℕ) (f : ℕ → ℕ) (l : List ℕ) → length l ≡ n → ((i : ℕ) → i < n → getD l i 0 ≡ f i) → l ≡ table n f
-is-table n f l e h = ext-getD 0 l (table n f) (e ∙ sym (table-length n f)) (λ i b. let m : i < n = omega arith in h i m ∙ sym (table-at n f i 0 m))
 
 -- ---- a turn for each of 0 to n - 1, one after the other
 unfoldable pub turns : {A : Type 0} → (ℕ → A → A) → ℕ → A → A

@@ -33,7 +33,7 @@ done n s = record { number = n; state = s }
 abbrev pub Works : ℕ → (List Rule → State) → (List Rule → State) → Option Call → Type 0
 Works n now before q = (rules : List Rule) → done n (now rules) ≡ worked (before rules) q
 
--- the number of the first that holds of: dead process, taken, missing, same twice, no file
+-- the number of the first that holds of dead process, taken, missing, same twice and no file, and 0 where none holds
 unfoldable pub lowestOf : Bool → Bool → Bool → Bool → Bool → ℕ
 lowestOf dead taken missing same nofile =
     elim dead [

@@ -158,16 +158,16 @@ impl Tracker {
                 tracker: self,
             };
         }
-        let mut after = self;
-        after.live = live;
-        after.items = items;
-        after.feeders = feeders;
-        after.fed = fed;
-        after.descriptors = descriptors;
-        after.names = names;
         Called {
             work: Work::Done,
-            tracker: after,
+            tracker: Tracker {
+                live,
+                items,
+                feeders,
+                fed,
+                descriptors,
+                names,
+            },
         }
     }
 }

@@ -10,10 +10,10 @@ use Rattle.sets.specs.Sets.{has, those}
 use Rattle.sets.proofs.Members.{those-has, those-lt, set-ext}
 use Rattle.flow.specs.Tables.{someBelow}
 use Rattle.flow.proofs.Bools.{or-false-l, or-false-r, and-l, and-r}
-use Rattle.flow.proofs.TableLaws.{none-of}
+use Rattle.flow.proofs.TableLaws.{is-table, none-of}
 use Rattle.transpose.specs.Transposed.{transposed}
 use Rattle.transpose.specs.Rounds.{upper, even, word, shuffled}
-use Rattle.transpose.proofs.Filling.{is-table, shuffled-at, shuffled-size}
+use Rattle.transpose.proofs.Filling.{shuffled-at, shuffled-size}
 
 -- rounds at the distances of a list, the last one first
 unfoldable pub rounds : List ℕ → List ℕ → List ℕ
@@ -66,7 +66,7 @@ none-strays = refl
 pub exchanged : (rows : List ℕ) → rounds distances rows ≡ transposed rows
 unfolding transposed rounds distances word
 exchanged rows =
-    is-table (λ i. those (λ r. has (getD rows r 0) i)) (rounds distances rows) (shuffled-size 1 _)
+    is-table 64 (λ i. those (λ r. has (getD rows r 0) i)) (rounds distances rows) (shuffled-size 1 _)
     (λ i h.
     set-ext (getD (rounds distances rows) i 0) (those (λ r. has (getD rows r 0) i))
     (rw (shuffled-at 1 _ i h) (those-lt _)) (those-lt _)

@@ -6,18 +6,10 @@ use mathlib.Core.Path.{_≡_, refl, sym, _∙_}
 use mathlib.Core.Bool.{true, false}
 use mathlib.Core.List.{List}
 use lib.ListN.{length, getD, set, length-set}
-use lib.Seq.{ext-getD, getD-set-same, getD-set-other}
-use Rattle.flow.specs.Tables.{tableFrom, table}
-use Rattle.flow.proofs.TableLaws.{table-at}
+use lib.Seq.{getD-set-same, getD-set-other}
+use Rattle.flow.specs.Tables.{table}
+use Rattle.flow.proofs.TableLaws.{table-at, table-length, is-table}
 use Rattle.transpose.specs.Rounds.{even, word, shuffled}
-
-table-size : (f : ℕ → ℕ) → length (table 64 f) ≡ 64
-unfolding table tableFrom
-table-size f = refl
-
--- a list of 64 elements is the table of them
-pub is-table : (f : ℕ → ℕ) (l : List ℕ) → length l ≡ 64 → ((i : ℕ) → i < 64 → getD l i 0 ≡ f i) → l ≡ table 64 f
-is-table f l e h = ext-getD 0 l (table 64 f) (e ∙ sym (table-size f)) (λ i b. let m : i < 64 = omega arith in h i m ∙ sym (table-at 64 f i 0 m))
 
 -- row j of a round
 abbrev pub rowAt : ℕ → List ℕ → ℕ → ℕ
@@ -31,7 +23,7 @@ pub record Filled (d : ℕ) (rows : List ℕ) (n : ℕ) (out : List ℕ) : Type 
 module _ (d : ℕ) (rows : List ℕ) where
   pub shuffled-size : length (shuffled d rows) ≡ 64
   unfolding shuffled
-  shuffled-size = table-size (rowAt d rows)
+  shuffled-size = table-length 64 (rowAt d rows)
 
   pub filled-none : (out : List ℕ) → length out ≡ 64 → Filled d rows 0 out
   filled-none out e = record { size = e; there = λ j h. absurd (omega arith) }
@@ -63,4 +55,4 @@ module _ (d : ℕ) (rows : List ℕ) where
 
   pub filled-all : (out : List ℕ) → Filled d rows 64 out → out ≡ shuffled d rows
   unfolding shuffled
-  filled-all out s = is-table (rowAt d rows) out (s .size) (s .there)
+  filled-all out s = is-table 64 (rowAt d rows) out (s .size) (s .there)

@@ -14,7 +14,7 @@ upper d b = eqb (b / d % 2) 1
 unfoldable pub even : ℕ → Bool
 even j = eqb (j % 2) 0
 
--- the masks m and n are not the columns without bit d and those with it
+-- the masks m and n are not the columns without bit d and those with it, or a column with it is below d
 unfoldable pub unfit : ℕ → ℕ → ℕ → Bool
 unfit d m n = someBelow 64 (λ b. elim (upper d b) [ true ↦ has m b || not (has n b) || ltb b d | false ↦ not (has m b) || has n b ])
 

@@ -6,7 +6,7 @@ ghost use lib.ListN.{length};
 ghost use Rattle.transpose.specs.Transposed.{transposed};
 ghost use Rattle.transpose.specs.Rounds.{unfit, word, shuffled};
 
-// What the type says of a lent array, for the proofs: nothing is done.
+// What the type says of an array, for the proofs: nothing is done.
 fn sized(rows: [u64; 64])
     ensures { λ _. ⌜ length rows ≡ 64 ⌝ }
 {}
