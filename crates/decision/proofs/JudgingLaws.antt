@@ -1,9 +1,9 @@
 -- A rule is broken where the holders of its items say so, and the lowest broken rule is the first that the search finds.
-use Prim.Native.Nat.{ℕ, zero, suc, _+_, _-_, _%_, _^_, _<_, _≤_}
+use Prim.Native.Nat.{ℕ, zero, suc, _+_, _-_, _%_, _<_, _≤_}
 use native.Mathlib.Omega.{arith}
 use mathlib.Core.Path.{_≡_, refl, sym, ap, _∙_}
 use mathlib.Core.Bool.{Bool, true, false, not, _&&_}
-use mathlib.Core.List.{List, [], _∷_}
+use mathlib.Core.List.{List}
 use mathlib.Core.Option.{Option, none, some}
 use lib.Dec.{ltb, eqb}
 use lib.ListN.{getD}
@@ -16,7 +16,7 @@ use Rattle.flow.specs.Links.{meets}
 use Rattle.flow.specs.Rules.{holds, breaks, broken, Numbered, firstBroken, lowestBroken}
 use Rattle.flow.specs.Refusals.{itemsFit}
 use Rattle.flow.specs.Queries.{holders}
-use Rattle.flow.proofs.Bools.{by, no-both, and-l, and-r, and-i, choice, chosen-l, chosen-r, choices}
+use Rattle.flow.proofs.Bools.{by, and-l, and-r, and-i, choice, chosen-l, chosen-r, choices}
 use Rattle.flow.proofs.TableLaws.{table-at, some-of, none-of, none-below}
 use Rattle.decision.specs.Judging.{conditionFrom, stored, conditionAt, ruleFrom, brokenBy, firstFrom, countOf}
 

@@ -3,11 +3,11 @@ use Prim.Native.Nat.{ℕ, zero, suc, _+_, _%_, _≤_, _<_}
 use native.Mathlib.Omega.{arith}
 use native.Mathlib.Nat.{mod-eq-of-lt}
 use mathlib.Core.Path.{_≡_, refl, sym, ap, ap₂, _∙_}
-use mathlib.Core.Bool.{Bool, true, false, not, _&&_, _||_}
+use mathlib.Core.Bool.{Bool, true, false, not, _&&_}
 use mathlib.Core.List.{List, [], _∷_, _++_}
-use mathlib.Core.Option.{Option, none, some}
+use mathlib.Core.Option.{some}
 use lib.Dec.{ltb, leb, eqb}
-use lib.ListN.{getD, length, set}
+use lib.ListN.{length, set}
 use lib.Seq.{getD-set-same, getD-set-other}
 use borrow.Author.Tests.{eqb-true, ltb-true, lt-ltb, ltb-false, le-ltb, le-leb, lt-leb}
 use Rattle.flow.specs.Tables.{_⇒_, firstThat, tableFrom, table}
@@ -16,11 +16,11 @@ use Rattle.flow.specs.Rules.{broken}
 use Rattle.flow.specs.Refusals.{itemsFit, substituteFits, sameItems, ruleTests}
 use Rattle.flow.specs.Verdicts.{Outcome, refuses, loads, withRule}
 use Rattle.flow.specs.Queries.{holders}
-use Rattle.flow.proofs.Bools.{by, no-both, and-l, and-r, or-elim, chosen-l, chosen-r}
+use Rattle.flow.proofs.Bools.{by, and-l, and-r, chosen-l, chosen-r}
 use Rattle.flow.proofs.Rows.{leads-lt}
+use Rattle.flow.proofs.TableLaws.{table-length}
 use Rattle.records.specs.Reading.{aRule, outcomeOfRule, outcomeOf}
 use Rattle.tracker.specs.View.{view as trackerView}
-use Rattle.tracker.proofs.Spreading.{table-length}
 use Rattle.tracker.proofs.Views.{view-rules, view-with-rule}
 use Rattle.decision.specs.declared.Monitor.{Monitor}
 use Rattle.decision.specs.Judging.{conditionFrom, stored, ruleFrom, brokenBy, countOf}

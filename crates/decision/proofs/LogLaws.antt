@@ -6,20 +6,19 @@ use mathlib.Core.Path.{_≡_, refl, sym, ap, ap₂, _∙_}
 use mathlib.Core.Bool.{true, false}
 use mathlib.Core.List.{List, [], _∷_, _++_}
 use lib.Dec.{leb}
-use lib.ListN.{length, take, drop, set, length-drop, length-set, length-append, take-append-drop, drop-of-length-le}
+use lib.ListN.{length, take, drop, set, length-drop, length-set, take-append-drop, drop-of-length-le}
 use lib.Seq.{take-all, take-suc-set, drop-set-lt, drop-drop, append-snoc}
 use borrow.Author.Tests.{le-leb, lt-leb}
 use Rattle.flow.specs.Box.{State}
 use Rattle.flow.specs.Records.{recordsIn, recordsOf}
-use Rattle.flow.specs.Verdicts.{Answer as Word, answerOf, outcome, answer, next, Answered as LogAnswered, answerAll, runLog}
-use Rattle.flow.specs.Queries.{result, refuse}
+use Rattle.flow.specs.Verdicts.{Answer as Word, outcome, answer, next, Answered as LogAnswered, answerAll, runLog}
+use Rattle.flow.specs.Queries.{result}
 use Rattle.records.specs.Reading.{extentOf}
 use Rattle.records.proofs.RecordLaws.{extent-positive, extent-le, records-first, log-empty, log-first}
 use Rattle.tracker.specs.Replies.{replyOf}
 use Rattle.tracker.specs.declared.queries.Reply.the-variants.{Result, Refused}
 use Rattle.decision.specs.declared.Monitor.{Monitor}
 use Rattle.decision.specs.declared.Answered.{Answered}
-use Rattle.decision.specs.declared.Ran.{Ran}
 use Rattle.decision.specs.View.{view}
 use Rattle.decision.specs.Answers.{wordOf, Answers}
 use Rattle.decision.specs.Logs.{codeOf, codesOf, roomFor, RunsBy, Runs}

@@ -1,18 +1,17 @@
 -- A call that a rule stops: inhibited, or diverted to the substitute.
-use Prim.Native.Nat.{ℕ, _+_, _%_, _≤_, _<_}
+use Prim.Native.Nat.{ℕ, _%_}
 use native.Mathlib.Omega.{arith}
 use native.Mathlib.Nat.{mod-eq-of-lt}
 use mathlib.Core.Path.{_≡_, refl, sym, ap, ap₂, _∙_}
 use mathlib.Core.Bool.{Bool, true, false, not, _&&_, _||_}
 use mathlib.Core.List.{List}
-use mathlib.Core.Option.{none, some}
 use lib.Dec.{eqb}
 use lib.ListN.{getD}
 use borrow.Author.Tests.{not-true, not-false}
-use Rattle.flow.specs.Box.{own, Rule, State}
+use Rattle.flow.specs.Box.{own, Rule}
 use Rattle.flow.specs.Links.{used}
-use Rattle.flow.specs.Calls.{kindNumber, Call, gift, Change, after}
-use Rattle.flow.specs.Verdicts.{inhibits, modifies, diversion, mayDivert, stopped, verdict, allows}
+use Rattle.flow.specs.Calls.{kindNumber, Call, gift, after}
+use Rattle.flow.specs.Verdicts.{inhibits, modifies, diversion, mayDivert, stopped}
 use Rattle.flow.proofs.Bools.{and-i, or-false-l, or-false-r}
 use Rattle.tracker.specs.declared.Tracker.{Tracker}
 use Rattle.tracker.specs.View.{view as trackerView}

@@ -1,9 +1,9 @@
 -- Demand 3 of the code follows from demand 3 of the definitions: the trackers of a chain, viewed, are the states of the definitions.
-use Prim.Native.Nat.{ℕ, zero, suc, _≤_, _<_}
+use Prim.Native.Nat.{ℕ, zero, suc}
 use native.Mathlib.Omega.{arith}
 use mathlib.Core.Path.{_≡_, refl, sym, ap, subst, _∙_}
 use mathlib.Core.Logic.{_⊎_, inl, inr, ⊎-elim}
-use mathlib.Core.Bool.{Bool, true, false}
+use mathlib.Core.Bool.{Bool, true}
 use mathlib.Core.List.{List, [], _∷_, _++_}
 use mathlib.Core.Option.{Option, none, some}
 use lib.ListN.{length}
@@ -12,19 +12,21 @@ use Rattle.flow.specs.Calls.{Call, change, after}
 use Rattle.flow.specs.Rules.{forbids, Numbered, lowestBroken}
 use Rattle.flow.specs.Records.{callOf, ruleOf}
 use Rattle.flow.specs.Refusals.{refusal}
-use Rattle.flow.specs.Verdicts.{Outcome, refuses, loads, allows, inhibits, modifies, diversion, mayDivert, breaksNone, stopped, verdictBy, verdict, accepted, outcomeBy, outcome, Answer as Word, rule, answerOf, withRule, stateAfter}
-use Rattle.flow.specs.Queries.{itemsQuery, result}
-use Rattle.flow.specs.Contents.{Step, entry, memory, Machine, stepState, stepAt, stateAt, runAt}
+use Rattle.flow.specs.Verdicts.{Outcome, loads, diversion, mayDivert, breaksNone, stopped, verdictBy, verdict, accepted, outcomeBy, outcome, rule, answerOf, withRule, stateAfter, runLog}
+use Rattle.flow.specs.Queries.{itemsQuery}
+use Rattle.flow.specs.Contents.{Step, entry, memory, stepState, stepAt, stateAt}
 use Rattle.flow.specs.TwoRuns.{Clean, Forbidden, first, later, Barred, Demand3}
+use Rattle.flow.specs.Consequences.{LogIsSteps}
 use Rattle.flow.proofs.Bools.{choice}
+use Rattle.flow.proofs.Consequences.{log-is-steps}
 use Rattle.flow.proofs.TwoRuns.{run-tracker, forbidden-later, demand3}
 use Rattle.tracker.specs.Replies.{replyOf}
 use Rattle.decision.specs.declared.Monitor.{Monitor}
 use Rattle.decision.specs.declared.Answer.{Answer}
-use Rattle.decision.specs.declared.Answer.the-variants.{Loaded}
 use Rattle.decision.specs.View.{view}
 use Rattle.decision.specs.Answers.{wordOf}
-use Rattle.decision.specs.TwoRuns.{Chain, RecordedClean, LoadedAgainst, LoadedBar, Demand3OfCode}
+use Rattle.decision.specs.Logs.{RunsBy, Runs}
+use Rattle.decision.specs.TwoRuns.{Chain, RecordedWithout, LoadedAgainst, LoadedForbid, Demand3OfCode, LogsGoOn}
 
 -- ---- the state of a chain is that of the definitions
 module _ (steps : List Step) (x : ℕ → Monitor) (a : ℕ → Answer) (c : Chain steps x a) where
@@ -83,15 +85,15 @@ module _ (steps : List Step) (x : ℕ → Monitor) (a : ℕ → Answer) (ch : Ch
       let v : view (x (suc (w .place))) ≡ withRule s (ruleOf (w .bytes)) = h .state ∙ ap (stateAfter s) e in
       subst (λ (u : State). Forbidden c i (u .rules)) (sym v) (forbidden-last c i (s .rules) (ruleOf (w .bytes)) (w .forbidden))
 
-  pub barred : (chosen : ℕ → Bool) (j c : ℕ) → LoadedBar chosen steps a j c → Barred chosen (stateAt steps j) c
-  unfolding LoadedBar Barred
+  pub barred : (chosen : ℕ → Bool) (j c : ℕ) → LoadedForbid chosen steps a j c → Barred chosen (stateAt steps j) c
+  unfolding LoadedForbid Barred
   barred chosen j c h i l m =
       let w = h i l m in
       forbidden-later steps c i (suc (w .place)) j (w .earlier)
       (subst (λ (u : State). Forbidden c i (u .rules)) (chain-view steps x a ch (suc (w .place))) (loaded-forbids j c i w))
 
-  pub clean : (chosen : ℕ → Bool) (k c : ℕ) → RecordedClean chosen (x k) c → Clean chosen (stateAt steps k) c
-  unfolding RecordedClean Clean replyOf
+  pub clean : (chosen : ℕ → Bool) (k c : ℕ) → RecordedWithout chosen (x k) c → Clean chosen (stateAt steps k) c
+  unfolding RecordedWithout Clean replyOf
   clean chosen k c h w e = h w (sym e ∙ ap (λ (s : State). itemsQuery s c) (sym (chain-view steps x a ch k)))
 
 pub demand3-of-code : Demand3OfCode
@@ -105,3 +107,9 @@ demand3-of-code W m chosen steps in₁ in₂ agree x y a b cx cy k l c hc =
           (λ g. inl (rw (run-tracker m in₁ steps j) (barred steps x a cx chosen j c g)))
           (λ g. inr (rw (run-tracker m in₂ steps j) (barred steps y b cy chosen j c g))) h),
     )
+
+pub logs-go-on : LogsGoOn
+unfolding LogsGoOn LogIsSteps Runs RunsBy
+logs-go-on steps x a c log before now r h room =
+    let w : RunsBy true (x (length steps)) log before r now = subst (λ (b : Bool). RunsBy b (x (length steps)) log before r now) room h in
+    w .1 ∙ ap (λ (s : State). runLog s log .state) (chain-view steps x a c (length steps)) ∙ log-is-steps steps log

@@ -3,21 +3,19 @@ use Prim.Native.Nat.{ℕ, _+_, _%_, _≤_, _<_}
 use native.Mathlib.Omega.{arith}
 use native.Mathlib.Nat.{mod-eq-of-lt}
 use mathlib.Core.Path.{_≡_, refl, sym, ap, subst, _∙_}
-use mathlib.Core.Bool.{Bool, true, false, not, _&&_}
+use mathlib.Core.Bool.{Bool, true, false}
 use mathlib.Core.List.{List, [], _∷_}
 use mathlib.Core.Option.{Option, none, some}
-use lib.Dec.{ltb, eqb}
-use borrow.Author.Tests.{eqb-true, ltb-true, ltb-false, not-false, eq-eqb, ne-eqb}
-use Rattle.flow.specs.Tables.{table, firstThat}
-use Rattle.flow.specs.Box.{processCount, Rule, State}
-use Rattle.flow.specs.Links.{used}
+use borrow.Author.Tests.{eqb-true, ltb-true, not-false}
+use Rattle.flow.specs.Tables.{firstThat}
+use Rattle.flow.specs.Box.{Rule, State}
 use Rattle.flow.specs.Calls.{Kind, start, openName, create, pipe, device, dup, close, read, write, truncate, mapRead, mapBoth, unmap, unlink, rename, link, fork, exit, label, kindNumber, Call, change, after}
 use Rattle.flow.specs.Rules.{broken, Numbered, lowestBroken}
 use Rattle.flow.specs.Records.{byteAt, kindOf, callIn, callFrom}
 use Rattle.flow.specs.Refusals.{ranges, inRange, fieldsFit, callTests}
 use Rattle.flow.specs.Verdicts.{Outcome, refuses, allows, inhibits, modifies, diversion, mayDivert, breaksNone, stopped, verdictBy, verdict}
 use Rattle.flow.specs.Consequences.{KindsNumbered}
-use Rattle.flow.proofs.Bools.{by, no-both, chosen-l, chosen-r}
+use Rattle.flow.proofs.Bools.{chosen-l, chosen-r}
 use Rattle.flow.proofs.TableLaws.{AllFalse, all-false}
 use Rattle.flow.proofs.Accepted.{fits-process}
 use Rattle.flow.proofs.Consequences.{kinds-numbered}
@@ -128,7 +126,7 @@ module _ (m : Monitor) (kind p a b c : ℕ) where
   abbrev q : Option Call
   q = callFrom kind p a b c
 
-  pub call-refused : (n : ℕ) → some n ≡ firstThat (callTests (view m) q) → outcomeOf (view m) (aCall q) ≡ refuses n
+  pub call-refused : (n : ℕ) → some n ≡ firstThat (callTests (view m) q) → outcomeOf (view m) (aCall kind p a b c) ≡ refuses n
   unfolding outcomeOf outcomeOfCall
   call-refused n e = ap (outcomeOfCall (view m) q) (sym e) ∙ of-number q
     where
@@ -138,12 +136,12 @@ module _ (m : Monitor) (kind p a b c : ℕ) where
 
   -- a call that is not refused gets the verdict
   pub call-judged : (t : Tracker) (r : Answered) → none ≡ firstThat (callTests (view m) q) → trackerView t (rulesOf m) ≡ worked (view m) q .state
-      → ((x : Call) → WorkedOut m t x kind p → Answers m (verdict (view m) x) r) → Answers m (outcomeOf (view m) (aCall q)) r
+      → ((x : Call) → WorkedOut m t x kind p → Answers m (verdict (view m) x) r) → Answers m (outcomeOf (view m) (aCall kind p a b c)) r
   unfolding outcomeOf outcomeOfCall worked stateBy callTests firstThat AllFalse
   call-judged t r e w f = go q refl e w
     where
       go : (o : Option Call) → callFrom kind p a b c ≡ o → none ≡ firstThat (callTests (view m) o) → trackerView t (rulesOf m) ≡ worked (view m) o .state
-          → Answers m (outcomeOf (view m) (aCall o)) r
+          → Answers m (outcomeOfCall (view m) o (firstThat (callTests (view m) o))) r
       go none g n v = absurd (let z : _≡_ {A = ℕ} 0 1 = cc in let y : ⊥ = omega arith in y)
       go (some x) g n v =
           let h = all-false (callTests (view m) (some x)) (sym n) in

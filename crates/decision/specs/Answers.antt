@@ -46,7 +46,7 @@ abbrev pub AnswersItems : Monitor → ℕ → Reply → Type 0
 AnswersItems m c r = replyOf r ≡ itemsQuery (view m) c
 
 -- ---- what the functions below the answer go by
--- the call q has this kind and is of process p
+-- the call q has this kind and is of process p, taken by its remainder
 pub record Asked (q : Call) (kind p : ℕ) : Type 0 where
   pub kind-is : kindNumber (q .kind) ≡ kind
   pub process-is : q .process ≡ p % processCount

@@ -6,13 +6,13 @@ use mathlib.Core.List.{List, [], _∷_, _++_}
 use lib.Dec.{leb}
 use lib.ListN.{length, drop}
 use Rattle.flow.specs.Verdicts.{Answer as Word, refused, rule, allow, inhibit, modify, runLog}
-use Rattle.flow.specs.Queries.{Reply as Answer, refuse, result}
+use Rattle.flow.specs.Queries.{refuse, result}
 use Rattle.tracker.specs.Replies.{replyOf}
 use Rattle.decision.specs.declared.Monitor.{Monitor}
 use Rattle.decision.specs.declared.Ran.{Ran}
 use Rattle.decision.specs.View.{view}
 
--- the code of an answer: its word, then its numbers, each a byte from the lowest on
+-- the code of an answer: its word, then its numbers, from the lowest byte on; a rule's number is below 32, a substitute below 64
 unfoldable pub codeOf : Word → ℕ
 codeOf allow = 0
 codeOf (inhibit n) = 1 + 256 * n

@@ -16,6 +16,7 @@ ruleAt tags items sets actions substitutes k =
 unfoldable pub ruleOf : Monitor → ℕ → Rule
 ruleOf m k = ruleAt (m .tags) (m .items) (m .sets) (m .actions) (m .substitutes) k
 
+-- the rules loaded; places from their count on stand for nothing
 unfoldable pub rulesOf : Monitor → List Rule
 rulesOf m = table (countOf (m .loaded)) (ruleOf m)
 

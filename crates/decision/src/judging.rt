@@ -5,6 +5,7 @@ ghost use Rattle.flow.specs.Box.{Rule};
 ghost use Rattle.flow.specs.Rules.{broken};
 ghost use Rattle.tracker.specs.View.{view as trackerView};
 ghost use Rattle.decision.specs.Judging.{stored, conditionAt, ruleFrom, brokenBy, firstFrom, countOf};
+use crate::Monitor;
 use tracker::Tracker;
 
 pub const FORBID: u8 = 0x11;
@@ -31,10 +32,10 @@ pub fn breaks(holders: &[u64; 64], tag: u8, item: u8, set: u64) -> bool
 pub fn count(loaded: u8) -> u8
     ensures { λ r. ⌜ r ≡ countOf loaded ⌝ }
 {
-    if loaded < 32 {
+    if loaded < Monitor::RULES {
         return loaded;
     }
-    32
+    Monitor::RULES
 }
 
 // The lowest broken rule, and the number of rules where none is broken.

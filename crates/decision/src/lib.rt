@@ -5,7 +5,6 @@ mod rules;
 
 ghost use Prim.Native.Nat.{_%_};
 ghost use Rattle.flow.specs.Calls.{Call as CallOf};
-ghost use Rattle.flow.specs.Records.{callFrom};
 ghost use Rattle.flow.specs.Verdicts.{stopped as stoppedBy, verdict};
 ghost use Rattle.records.specs.Reading.{aCall, aRule, outcomeOf};
 ghost use Rattle.tracker.specs.Replies.{Answered as HoldersAnswered};
@@ -63,7 +62,7 @@ pub struct Ran {
 }
 
 impl Monitor {
-    pub const RULES: usize = 32;
+    pub const RULES: u8 = 32;
 
     // A fresh tracker and no rules.
     pub fn new() -> Monitor
@@ -96,7 +95,8 @@ impl Monitor {
         t.holders(i, out)
     }
 
-    // Rule number k stops a call of this kind by process p: a write may be diverted, all else is inhibited.
+    // Rule number k stops a call of this kind by process p: a write may be diverted, all else is inhibited. The call has tested p, and
+    // the substitute was tested when the rule was loaded.
     fn stopped(self, k: u8, kind: u8, p: u8) -> Answered
         ensures { λ r. ⌜ ((q : CallOf) → Asked q kind p → Answers self (stoppedBy (view self) q k (ruleOf self (k % 32))) r) ⌝ }
     {
@@ -127,11 +127,17 @@ impl Monitor {
                 monitor: self,
             };
         }
-        let mut next = self;
-        next.tracker = diverted;
         Answered {
             answer: Answer::Modify(k, to),
-            monitor: next,
+            monitor: Monitor {
+                tracker: diverted,
+                tags,
+                items,
+                sets,
+                actions: self.actions,
+                substitutes: self.substitutes,
+                loaded,
+            },
         }
     }
 
@@ -147,17 +153,23 @@ impl Monitor {
         if k != count(loaded) {
             return self.stopped(k, kind, p);
         }
-        let mut next = self;
-        next.tracker = after;
         Answered {
             answer: Answer::Allow,
-            monitor: next,
+            monitor: Monitor {
+                tracker: after,
+                tags,
+                items,
+                sets,
+                actions: self.actions,
+                substitutes: self.substitutes,
+                loaded,
+            },
         }
     }
 
     // A call of any five bytes: it is worked out, then judged.
     fn call(self, kind: u8, p: u8, a: u8, b: u8, c: u8) -> Answered
-        ensures { λ r. ⌜ Answers self (outcomeOf (view self) (aCall (callFrom kind p a b c))) r ⌝ }
+        ensures { λ r. ⌜ Answers self (outcomeOf (view self) (aCall kind p a b c)) r ⌝ }
     {
         let t = self.tracker;
         let called = t.call(kind, p, a, b, c);
@@ -184,7 +196,7 @@ impl Monitor {
             };
         }
         let at = self.loaded;
-        if 32 <= at {
+        if Monitor::RULES <= at {
             return Answered {
                 answer: Answer::Refused(11),
                 monitor: self,

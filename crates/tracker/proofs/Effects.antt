@@ -11,10 +11,10 @@ use lib.Seq.{getD-set-same, getD-set-other, take-add}
 use borrow.Author.Tests.{ltb-false, eqb-true, eqb-false, eq-eqb, ne-eqb, lt-ltb, le-leb, leb-false}
 use Rattle.sets.specs.Sets.{bit, has, only, thoseFrom, those}
 use Rattle.sets.proofs.Members.{those-has, only-has, none-has, eqb-sym}
-use Rattle.flow.specs.Tables.{table, someBelow, isIn}
+use Rattle.flow.specs.Tables.{someBelow, isIn}
 use Rattle.flow.specs.Box.{isDevice, isProcess, isFile, closed, slot, descriptorCount, State, itemsOf, feedersOf, fedBy}
 use Rattle.flow.specs.Links.{mapped, used}
-use Rattle.flow.specs.Calls.{still, copy, clear, Change, withItems, putBlock, block, moved, ended, after}
+use Rattle.flow.specs.Calls.{copy, clear, Change, withItems, putBlock, block, moved, ended, after}
 use Rattle.flow.proofs.Bools.{or-elim, or-l, or-r, and-i, by, no-both, choice, chosen-l, chosen-r}
 use Rattle.flow.proofs.TableLaws.{table-at, table-length, is-table}
 use Rattle.tracker.specs.Marks.{fileSet, files, cleared, released}

@@ -99,8 +99,8 @@ impl Tracker {
     pub fn holders_by_item(self) -> [u64; 64]
         ensures { λ r. ⌜ ((rules : List Rule) → r ≡ table itemCount (λ i. holders (view self rules) i)) ⌝ }
     {
-        let items = self.items;
-        transpose::transpose(items)
+        let rows = self.items;
+        transpose::transpose(rows)
     }
 
     // Whether container c is in use.

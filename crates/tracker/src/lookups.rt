@@ -5,7 +5,7 @@ use crate::numbers::Descriptor;
 use crate::numbers::Name;
 use crate::numbers::Process;
 ghost use mathlib.Core.Path.{_≡_};
-ghost use Prim.Native.Nat.{ℕ, _%_};
+ghost use Prim.Native.Nat.{_%_};
 ghost use lib.ListN.{getD};
 ghost use Rattle.sets.specs.Sets.{_∪_};
 ghost use Rattle.flow.specs.Tables.{isIn};

@@ -1,6 +1,5 @@
 -- `items_fit` goes by the tag.
-use mathlib.Core.Path.{sym, ap, _∙_}
-use borrow.Author.Needs.{needs}
+use mathlib.Core.Path.{sym, ap}
 use Rattle.flow.specs.Refusals.{itemsFit}
 use Rattle.decision.proofs.JudgingLaws.{forbids-from, separates-from, confines-from}
 use Rattle.decision.proofs.rules.items_fit.Statement.{statement}

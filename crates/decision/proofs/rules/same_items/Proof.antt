@@ -1,6 +1,5 @@
 -- `same_items` goes by the tag.
-use mathlib.Core.Path.{sym, ap, _∙_}
-use borrow.Author.Needs.{needs}
+use mathlib.Core.Path.{sym, ap}
 use Rattle.flow.specs.Refusals.{sameItems}
 use Rattle.decision.proofs.JudgingLaws.{forbids-from, separates-from, confines-from}
 use Rattle.decision.proofs.rules.same_items.Statement.{statement}

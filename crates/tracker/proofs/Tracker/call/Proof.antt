@@ -6,9 +6,6 @@ use Rattle.tracker.proofs.Tests.{refusal-some, refusal-none, state-kept
 use borrow.Author.Needs.{needs}
 use Rattle.tracker.proofs.Tracker.call.Statement.{statement}
 use Rattle.tracker.proofs.Tracker.call.Tie as tie
-use Rattle.tracker.proofs.Tracker.call.Reads as reads
-use Rattle.tracker.proofs.Tracker.call.Lts as lts
-use Rattle.tracker.proofs.calls.call_in.Reads as call-in-reads
 
 call-in-requires : tie.Need-call-in-requires
 call-in-requires c κs = search needs

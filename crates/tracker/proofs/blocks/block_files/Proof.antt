@@ -10,10 +10,6 @@ use Rattle.tracker.specs.Marks.{filesIn}
 use Rattle.tracker.proofs.BlockLaws.{part, part-is, files-none, files-more}
 use Rattle.tracker.proofs.blocks.block_files.Statement.{statement}
 use Rattle.tracker.proofs.blocks.block_files.Tie as tie
-use Rattle.tracker.proofs.blocks.block_files.Reads as reads
-use Rattle.tracker.proofs.blocks.block_files.Lts as lts
-use Rattle.sets.proofs.union.Reads as union-reads
-use Rattle.tracker.proofs.lookups.file_set.Reads as file-set-reads
 
 abbrev Inv-loop : tie.InvT-loop
 Inv-loop descriptors entries at files₀ d₀ files d = (d ≤ 32) × (files ≡ filesIn (drop d (part entries at)))

@@ -9,8 +9,6 @@ use Rattle.flow.specs.Box.{closed}
 use Rattle.tracker.proofs.BlockLaws.{laid, laid-none, laid-more, laid-long, laid-all, closed-at}
 use Rattle.tracker.proofs.blocks.close_block.Statement.{statement}
 use Rattle.tracker.proofs.blocks.close_block.Tie as tie
-use Rattle.tracker.proofs.blocks.close_block.Reads as reads
-use Rattle.tracker.proofs.blocks.close_block.Lts as lts
 
 abbrev Inv-loop : tie.InvT-loop
 Inv-loop entries₀ at d₀ entries d = (d ≤ 32) × (entries ≡ laid entries₀ at (replicate 32 closed) d)

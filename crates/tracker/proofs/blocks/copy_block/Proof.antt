@@ -9,8 +9,6 @@ use Rattle.flow.specs.Calls.{putBlock}
 use Rattle.tracker.proofs.BlockLaws.{laid, laid-none, laid-more, laid-long, laid-all, part, part-is, part-long, part-read}
 use Rattle.tracker.proofs.blocks.copy_block.Statement.{statement}
 use Rattle.tracker.proofs.blocks.copy_block.Tie as tie
-use Rattle.tracker.proofs.blocks.copy_block.Reads as reads
-use Rattle.tracker.proofs.blocks.copy_block.Lts as lts
 
 abbrev Inv-loop : tie.InvT-loop
 Inv-loop entries₀ source at d₀ entries d = (d ≤ 32) × (entries ≡ laid entries₀ at (part entries₀ source) d)

@@ -3,27 +3,6 @@ use Rattle.tracker.proofs.Dispatch.{by-kind, no-kind, known-start, know
 use borrow.Author.Needs.{needs}
 use Rattle.tracker.proofs.calls.call_in.Statement.{statement}
 use Rattle.tracker.proofs.calls.call_in.Tie as tie
-use Rattle.tracker.proofs.calls.call_in.Reads as reads
-use Rattle.tracker.proofs.calls.call_in.Lts as lts
-use Rattle.tracker.proofs.calls.close_call.Reads as close-call-reads
-use Rattle.tracker.proofs.calls.create_call.Reads as create-call-reads
-use Rattle.tracker.proofs.calls.device_call.Reads as device-call-reads
-use Rattle.tracker.proofs.calls.dup_call.Reads as dup-call-reads
-use Rattle.tracker.proofs.calls.exit_call.Reads as exit-call-reads
-use Rattle.tracker.proofs.calls.fork_call.Reads as fork-call-reads
-use Rattle.tracker.proofs.calls.label_call.Reads as label-call-reads
-use Rattle.tracker.proofs.calls.link_call.Reads as link-call-reads
-use Rattle.tracker.proofs.calls.map_both_call.Reads as map-both-call-reads
-use Rattle.tracker.proofs.calls.map_read_call.Reads as map-read-call-reads
-use Rattle.tracker.proofs.calls.open_call.Reads as open-call-reads
-use Rattle.tracker.proofs.calls.pipe_call.Reads as pipe-call-reads
-use Rattle.tracker.proofs.calls.read_call.Reads as read-call-reads
-use Rattle.tracker.proofs.calls.rename_call.Reads as rename-call-reads
-use Rattle.tracker.proofs.calls.start_call.Reads as start-call-reads
-use Rattle.tracker.proofs.calls.truncate_call.Reads as truncate-call-reads
-use Rattle.tracker.proofs.calls.unlink_call.Reads as unlink-call-reads
-use Rattle.tracker.proofs.calls.unmap_call.Reads as unmap-call-reads
-use Rattle.tracker.proofs.calls.write_call.Reads as write-call-reads
 
 start-call-requires : tie.Need-start-call-requires
 start-call-requires c κs = search needs

@@ -9,15 +9,6 @@ use Rattle.tracker.proofs.CallAnswers.{dup-refuses, dup-works}
 use borrow.Author.Needs.{needs}
 use Rattle.tracker.proofs.calls.dup_call.Statement.{statement}
 use Rattle.tracker.proofs.calls.dup_call.Tie as tie
-use Rattle.tracker.proofs.calls.dup_call.Reads as reads
-use Rattle.tracker.proofs.calls.dup_call.Lts as lts
-use Rattle.tracker.proofs.calls.sizes.Reads as sizes-reads
-use Rattle.tracker.proofs.cells.is_live.Reads as is-live-reads
-use Rattle.tracker.proofs.cells.lowest.Reads as lowest-reads
-use Rattle.tracker.proofs.cells.set_descriptor.Reads as set-descriptor-reads
-use Rattle.tracker.proofs.cells.unfit.Reads as unfit-reads
-use Rattle.tracker.proofs.lookups.descriptor.Reads as descriptor-reads
-use Rattle.tracker.proofs.lookups.leads.Reads as leads-reads
 
 sizes-requires : tie.Need-sizes-requires
 sizes-requires c κs = search needs

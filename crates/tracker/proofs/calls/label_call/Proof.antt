@@ -9,15 +9,6 @@ use Rattle.tracker.proofs.CallAnswers.{label-refuses, label-works}
 use borrow.Author.Needs.{needs}
 use Rattle.tracker.proofs.calls.label_call.Statement.{statement}
 use Rattle.tracker.proofs.calls.label_call.Tie as tie
-use Rattle.tracker.proofs.calls.label_call.Reads as reads
-use Rattle.tracker.proofs.calls.label_call.Lts as lts
-use Rattle.sets.proofs.with.Reads as with-reads
-use Rattle.tracker.proofs.calls.sizes.Reads as sizes-reads
-use Rattle.tracker.proofs.cells.lowest.Reads as lowest-reads
-use Rattle.tracker.proofs.cells.unfit.Reads as unfit-reads
-use Rattle.tracker.proofs.lookups.in_use.Reads as in-use-reads
-use Rattle.tracker.proofs.spread.give.Reads as give-reads
-use Rattle.tracker.proofs.spread.reach.Reads as reach-reads
 
 sizes-requires : tie.Need-sizes-requires
 sizes-requires c κs = search needs

@@ -9,14 +9,6 @@ use Rattle.tracker.proofs.CallAnswers.{start-refuses, start-works}
 use borrow.Author.Needs.{needs}
 use Rattle.tracker.proofs.calls.start_call.Statement.{statement}
 use Rattle.tracker.proofs.calls.start_call.Tie as tie
-use Rattle.tracker.proofs.calls.start_call.Reads as reads
-use Rattle.tracker.proofs.calls.start_call.Lts as lts
-use Rattle.sets.proofs.with.Reads as with-reads
-use Rattle.tracker.proofs.calls.sizes.Reads as sizes-reads
-use Rattle.tracker.proofs.cells.is_live.Reads as is-live-reads
-use Rattle.tracker.proofs.cells.lowest.Reads as lowest-reads
-use Rattle.tracker.proofs.cells.set_items.Reads as set-items-reads
-use Rattle.tracker.proofs.cells.unfit.Reads as unfit-reads
 
 sizes-requires : tie.Need-sizes-requires
 sizes-requires c κs = search needs

@@ -9,17 +9,6 @@ use Rattle.tracker.proofs.CallAnswers.{truncate-refuses, truncate-keeps
 use borrow.Author.Needs.{needs}
 use Rattle.tracker.proofs.calls.truncate_call.Statement.{statement}
 use Rattle.tracker.proofs.calls.truncate_call.Tie as tie
-use Rattle.tracker.proofs.calls.truncate_call.Reads as reads
-use Rattle.tracker.proofs.calls.truncate_call.Lts as lts
-use Rattle.sets.proofs.member.Reads as member-reads
-use Rattle.tracker.proofs.calls.sizes.Reads as sizes-reads
-use Rattle.tracker.proofs.cells.is_live.Reads as is-live-reads
-use Rattle.tracker.proofs.cells.lowest.Reads as lowest-reads
-use Rattle.tracker.proofs.cells.set_items.Reads as set-items-reads
-use Rattle.tracker.proofs.cells.unfit.Reads as unfit-reads
-use Rattle.tracker.proofs.lookups.descriptor.Reads as descriptor-reads
-use Rattle.tracker.proofs.lookups.leads.Reads as leads-reads
-use Rattle.tracker.proofs.lookups.union_of.Reads as union-of-reads
 
 sizes-requires : tie.Need-sizes-requires
 sizes-requires c κs = search needs

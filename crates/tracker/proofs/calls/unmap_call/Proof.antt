@@ -9,17 +9,6 @@ use Rattle.tracker.proofs.CallAnswers.{unmap-refuses, unmap-works}
 use borrow.Author.Needs.{needs}
 use Rattle.tracker.proofs.calls.unmap_call.Statement.{statement}
 use Rattle.tracker.proofs.calls.unmap_call.Tie as tie
-use Rattle.tracker.proofs.calls.unmap_call.Reads as reads
-use Rattle.tracker.proofs.calls.unmap_call.Lts as lts
-use Rattle.sets.proofs.member.Reads as member-reads
-use Rattle.sets.proofs.without.Reads as without-reads
-use Rattle.tracker.proofs.calls.sizes.Reads as sizes-reads
-use Rattle.tracker.proofs.cells.is_live.Reads as is-live-reads
-use Rattle.tracker.proofs.cells.lowest.Reads as lowest-reads
-use Rattle.tracker.proofs.cells.row.Reads as row-reads
-use Rattle.tracker.proofs.cells.set_row.Reads as set-row-reads
-use Rattle.tracker.proofs.cells.unfit.Reads as unfit-reads
-use Rattle.tracker.proofs.release.release_one.Reads as release-one-reads
 
 sizes-requires : tie.Need-sizes-requires
 sizes-requires c κs = search needs

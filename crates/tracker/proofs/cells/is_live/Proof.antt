@@ -5,9 +5,6 @@ use Rattle.sets.specs.Sets.{has}
 use borrow.Author.Needs.{needs}
 use Rattle.tracker.proofs.cells.is_live.Statement.{statement}
 use Rattle.tracker.proofs.cells.is_live.Tie as tie
-use Rattle.tracker.proofs.cells.is_live.Reads as reads
-use Rattle.tracker.proofs.cells.is_live.Lts as lts
-use Rattle.sets.proofs.member.Reads as member-reads
 
 member-requires : tie.Need-member-requires
 member-requires c κs = search needs

@@ -3,8 +3,6 @@ use borrow.Author.Needs.{needs}
 use Rattle.tracker.specs.Worked.{lowestOf}
 use Rattle.tracker.proofs.cells.lowest.Statement.{statement}
 use Rattle.tracker.proofs.cells.lowest.Tie as tie
-use Rattle.tracker.proofs.cells.lowest.Reads as reads
-use Rattle.tracker.proofs.cells.lowest.Lts as lts
 
 returns : tie.Need-returns
 unfolding lowestOf
