@@ -127,6 +127,8 @@ impl Monitor {
                 monitor: self,
             };
         }
+        let actions = self.actions;
+        let substitutes = self.substitutes;
         Answered {
             answer: Answer::Modify(k, to),
             monitor: Monitor {
@@ -134,8 +136,8 @@ impl Monitor {
                 tags,
                 items,
                 sets,
-                actions: self.actions,
-                substitutes: self.substitutes,
+                actions,
+                substitutes,
                 loaded,
             },
         }
@@ -153,6 +155,8 @@ impl Monitor {
         if k != count(loaded) {
             return self.stopped(k, kind, p);
         }
+        let actions = self.actions;
+        let substitutes = self.substitutes;
         Answered {
             answer: Answer::Allow,
             monitor: Monitor {
@@ -160,8 +164,8 @@ impl Monitor {
                 tags,
                 items,
                 sets,
-                actions: self.actions,
-                substitutes: self.substitutes,
+                actions,
+                substitutes,
                 loaded,
             },
         }

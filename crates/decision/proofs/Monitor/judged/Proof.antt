@@ -22,7 +22,7 @@ returns c = λ q w. stopped-by _ _ _ _ _ q w (c .before .before .before .judge .
 returns-2 : tie.Need-returns-2
 unfolding view rulesOf ruleOf
 returns-2 c =
-    λ q w. allowed-as _ _ _ _ (allowed _ _ q (w .leads-to) (none-broken (c .before .before .before .before .before .before .before .before .before .args .self) _ _ (c .before .before .judge .ensures) (c .if1 .left ∙ c .before .count .ensures))) (w .leads-to)
+    λ q w. allowed-as _ _ _ _ (allowed _ _ q (w .leads-to) (none-broken (c .before .before .before .before .before .before .before .before .before .before .before .args .self) _ _ (c .before .before .before .before .judge .ensures) (c .before .before .if1 .left ∙ c .before .before .before .count .ensures))) (w .leads-to)
 
 pub judged-spec : {M : Type 1} → statement M
 judged-spec = tie.close (tie.spec judge-requires count-requires stopped-requires returns returns-2)
