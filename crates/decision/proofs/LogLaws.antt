@@ -7,14 +7,14 @@ use mathlib.Core.Bool.{true, false}
 use mathlib.Core.List.{List, [], _∷_, _++_}
 use lib.Dec.{leb}
 use lib.ListN.{length, take, drop, set, length-drop, length-set, take-append-drop, drop-of-length-le}
-use lib.Seq.{take-all, take-suc-set, drop-set-lt, drop-drop, append-snoc}
+use lib.Seq.{take-suc-set, drop-set-lt, drop-drop, append-snoc}
 use borrow.Author.Tests.{le-leb, lt-leb}
 use Rattle.flow.specs.Box.{State}
 use Rattle.flow.specs.Records.{recordsIn, recordsOf}
 use Rattle.flow.specs.Verdicts.{Answer as Word, outcome, answer, next, Answered as LogAnswered, answerAll, runLog}
 use Rattle.flow.specs.Queries.{result}
 use Rattle.records.specs.Reading.{extentOf}
-use Rattle.records.proofs.RecordLaws.{extent-positive, extent-le, records-first, log-empty, log-first}
+use Rattle.records.proofs.RecordLaws.{tail-part, extent-positive, extent-le, records-first, log-empty, log-first}
 use Rattle.tracker.specs.Replies.{replyOf}
 use Rattle.tracker.specs.declared.queries.Reply.the-variants.{Result, Refused}
 use Rattle.decision.specs.declared.Monitor.{Monitor}
@@ -27,9 +27,6 @@ use Rattle.decision.specs.Logs.{codeOf, codesOf, roomFor, RunsBy, Runs}
 -- from the place f on up to the place t
 abbrev part : ℕ → ℕ → List ℕ → List ℕ
 part f t l = take (t - f) (drop f l)
-
-pub tail-part : (at : ℕ) (log : List ℕ) → part at (length log) log ≡ drop at log
-tail-part at log = take-all (length log - at) (drop at log) (let e : length (drop at log) ≡ length log - at = length-drop at log in omega arith)
 
 pub record-part : (at e : ℕ) (log : List ℕ) → part at (at + e) log ≡ take e (drop at log)
 record-part at e log = ap (λ (n : ℕ). take n (drop at log)) (let z : at + e - at ≡ e = omega arith in z)

@@ -6,6 +6,7 @@ use Rattle.flow.specs.Box.{processCount, fresh}
 use Rattle.flow.specs.Calls.{kindNumber, Call, change, after}
 use Rattle.flow.specs.Verdicts.{Outcome, Answer as Word, refused, rule, allow, inhibit, modify, answerOf, stateAfter, outcome}
 use Rattle.flow.specs.Queries.{itemsQuery}
+use Rattle.records.specs.Reading.{aCall, outcomeOf}
 use Rattle.tracker.specs.declared.queries.Reply.{Reply}
 use Rattle.tracker.specs.Replies.{replyOf}
 use Rattle.decision.specs.declared.Monitor.{Monitor}
@@ -40,6 +41,10 @@ Made m = view m ≡ fresh
 -- `Monitor::answer`: what the record at the front of the bytes gets
 abbrev pub AnswersRecord : Monitor → List ℕ → Answered → Type 0
 AnswersRecord m bytes r = Answers m (outcome (view m) bytes) r
+
+-- `Monitor::call`: what a call of any five bytes gets (kind, process, a, b, c)
+abbrev pub AnswersCall : Monitor → ℕ → ℕ → ℕ → ℕ → ℕ → Answered → Type 0
+AnswersCall m kind p a b c r = Answers m (outcomeOf (view m) (aCall kind p a b c)) r
 
 -- `Monitor::items`: the items of container c
 abbrev pub AnswersItems : Monitor → ℕ → Reply → Type 0

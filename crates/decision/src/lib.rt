@@ -6,12 +6,12 @@ mod rules;
 ghost use Prim.Native.Nat.{_%_};
 ghost use Rattle.flow.specs.Calls.{Call as CallOf};
 ghost use Rattle.flow.specs.Verdicts.{stopped as stoppedBy, verdict};
-ghost use Rattle.records.specs.Reading.{aCall, aRule, outcomeOf};
+ghost use Rattle.records.specs.Reading.{aRule, outcomeOf};
 ghost use Rattle.tracker.specs.Replies.{Answered as HoldersAnswered};
 ghost use Rattle.decision.specs.Judging.{conditionFrom, ruleFrom};
 ghost use Rattle.decision.specs.View.{ruleOf, view};
 ghost use Rattle.decision.specs.Logs.{Runs};
-ghost use Rattle.decision.specs.Answers.{Made, AnswersRecord, AnswersItems, Answers, Asked, WorkedOut};
+ghost use Rattle.decision.specs.Answers.{Made, AnswersRecord, AnswersCall, AnswersItems, Answers, Asked, WorkedOut};
 use judging::CONFINE;
 use judging::FORBID;
 use judging::SEPARATE;
@@ -172,8 +172,8 @@ impl Monitor {
     }
 
     // A call of any five bytes: it is worked out, then judged.
-    fn call(self, kind: u8, p: u8, a: u8, b: u8, c: u8) -> Answered
-        ensures { λ r. ⌜ Answers self (outcomeOf (view self) (aCall kind p a b c)) r ⌝ }
+    pub fn call(self, kind: u8, p: u8, a: u8, b: u8, c: u8) -> Answered
+        ensures { λ r. ⌜ AnswersCall self kind p a b c r ⌝ }
     {
         let t = self.tracker;
         let called = t.call(kind, p, a, b, c);

@@ -1,5 +1,5 @@
 -- What a record gets goes by its reading alone, and a log goes record by record.
-use Prim.Native.Nat.{ℕ, zero, suc, _+_, _*_, _≤_, _<_}
+use Prim.Native.Nat.{ℕ, zero, suc, _+_, _*_, _-_, _≤_, _<_}
 use native.Mathlib.Nat.{le-refl}
 use native.Mathlib.Omega.{arith}
 use mathlib.Core.Path.{_≡_, refl, sym, ap, ap₂, _∙_}
@@ -8,7 +8,7 @@ use mathlib.Core.List.{List, [], _∷_}
 use mathlib.Core.Option.{Option, none, some}
 use lib.Dec.{eqb}
 use lib.ListN.{length, take, drop, length-drop}
-use lib.Seq.{take-length, drop-length, getD-take, length-take-le, take-add, drop-at, take-take}
+use lib.Seq.{take-all, take-length, drop-length, getD-take, length-take-le, take-add, drop-at, take-take}
 use borrow.Author.Tests.{ltb-false, le-ltb}
 use Rattle.flow.specs.Tables.{Test, _⇒_, firstThat}
 use Rattle.flow.specs.Box.{State}
@@ -76,6 +76,10 @@ extent-positive bytes h = choice (λ (e : ℕ). 1 ≤ e) (cutShort bytes) _ _ (�
 pub extent-le : (bytes : List ℕ) → extentOf bytes ≤ length bytes
 unfolding extentOf cutShort
 extent-le bytes = choice (λ (e : ℕ). e ≤ length bytes) (cutShort bytes) _ _ (λ x. le-refl (length bytes)) (λ x. ltb-false (length bytes) (recordLength bytes) x)
+
+-- the bytes from a place on, as the code lends them
+pub tail-part : (at : ℕ) (log : List ℕ) → take (length log - at) (drop at log) ≡ drop at log
+tail-part at log = take-all (length log - at) (drop at log) (let e : length (drop at log) ≡ length log - at = length-drop at log in omega arith)
 
 -- ---- the record at the front reads the same without what follows it
 -- a reading goes by the tag, the tests of the frame and the value
