@@ -14,7 +14,7 @@ use Rattle.flow.specs.Records.{recordsIn, recordsOf}
 use Rattle.flow.specs.Verdicts.{Answer as Word, outcome, answer, next, Answered as LogAnswered, answerAll, runLog}
 use Rattle.flow.specs.Queries.{result}
 use Rattle.records.specs.Reading.{extentOf}
-use Rattle.records.proofs.RecordLaws.{tail-part, extent-positive, extent-le, records-first, log-empty, log-first}
+use Rattle.records.proofs.RecordLaws.{tail-extent, tail-fits, extent-positive, records-first, log-empty, log-first}
 use Rattle.tracker.specs.Replies.{replyOf}
 use Rattle.tracker.specs.declared.queries.Reply.the-variants.{Result, Refused}
 use Rattle.decision.specs.declared.Monitor.{Monitor}
@@ -43,7 +43,7 @@ count-start log = record { within = omega arith; fewer = omega arith; counted = 
 
 module _ {log : List ℕ} {at n : ℕ} (w : Counted log at n) (l : at < length log) (e : ℕ) (h : e ≡ extentOf (part at (length log) log)) where
   extent-is : e ≡ extentOf (drop at log)
-  extent-is = h ∙ ap extentOf (tail-part at log)
+  extent-is = tail-extent log at e h
 
   left : 0 < length (drop at log)
   left = let d : length (drop at log) ≡ length log - at = length-drop at log in omega arith
@@ -52,11 +52,7 @@ module _ {log : List ℕ} {at n : ℕ} (w : Counted log at n) (l : at < length l
   extent-some = let z : 1 ≤ extentOf (drop at log) = extent-positive (drop at log) left in let y : e ≡ extentOf (drop at log) = extent-is in omega arith
 
   pub extent-fits : at + e ≤ length log
-  extent-fits =
-      let z : extentOf (drop at log) ≤ length (drop at log) = extent-le (drop at log) in
-      let y : e ≡ extentOf (drop at log) = extent-is in
-      let d : length (drop at log) ≡ length log - at = length-drop at log in
-      omega arith
+  extent-fits = tail-fits log at e h (w .within)
 
   rest-is : drop (extentOf (drop at log)) (drop at log) ≡ drop (at + e) log
   rest-is = drop-drop (extentOf (drop at log)) at log ∙ ap (λ (x : ℕ). drop (at + x) log) (sym extent-is)
@@ -76,7 +72,7 @@ module _ {log : List ℕ} {at n : ℕ} (w : Counted log at n) (l : at < length l
   pub count-lt : n < length (recordsOf log)
   count-lt = let z : length (recordsOf (drop at log)) ≡ suc (length (recordsOf (drop (at + e) log))) = one-less in let y : length (recordsOf log) ≡ n + length (recordsOf (drop at log)) = w .counted in omega arith
 
-no-records : length (recordsOf []) ≡ 0
+pub no-records : length (recordsOf []) ≡ 0
 unfolding recordsOf recordsIn
 no-records = refl
 

@@ -127,19 +127,11 @@ impl Monitor {
                 monitor: self,
             };
         }
-        let actions = self.actions;
-        let substitutes = self.substitutes;
+        let mut next = self;
+        next.tracker = diverted;
         Answered {
             answer: Answer::Modify(k, to),
-            monitor: Monitor {
-                tracker: diverted,
-                tags,
-                items,
-                sets,
-                actions,
-                substitutes,
-                loaded,
-            },
+            monitor: next,
         }
     }
 

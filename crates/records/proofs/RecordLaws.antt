@@ -78,8 +78,20 @@ unfolding extentOf cutShort
 extent-le bytes = choice (λ (e : ℕ). e ≤ length bytes) (cutShort bytes) _ _ (λ x. le-refl (length bytes)) (λ x. ltb-false (length bytes) (recordLength bytes) x)
 
 -- the bytes from a place on, as the code lends them
-pub tail-part : (at : ℕ) (log : List ℕ) → take (length log - at) (drop at log) ≡ drop at log
+tail-part : (at : ℕ) (log : List ℕ) → take (length log - at) (drop at log) ≡ drop at log
 tail-part at log = take-all (length log - at) (drop at log) (let e : length (drop at log) ≡ length log - at = length-drop at log in omega arith)
+
+-- the record at a place of a log, measured on these bytes, ends within the log
+module _ (log : List ℕ) (at e : ℕ) (h : e ≡ extentOf (take (length log - at) (drop at log))) where
+  pub tail-extent : e ≡ extentOf (drop at log)
+  tail-extent = h ∙ ap extentOf (tail-part at log)
+
+  pub tail-fits : at ≤ length log → at + e ≤ length log
+  tail-fits l =
+      let z : extentOf (drop at log) ≤ length (drop at log) = extent-le (drop at log) in
+      let y : e ≡ extentOf (drop at log) = tail-extent in
+      let d : length (drop at log) ≡ length log - at = length-drop at log in
+      omega arith
 
 -- ---- the record at the front reads the same without what follows it
 -- a reading goes by the tag, the tests of the frame and the value

@@ -1,7 +1,7 @@
 -- A log that the program reads has no more records than there is room for, and its answers stand at the front.
 use Prim.Native.Nat.{ℕ, zero, suc, _+_, _*_, _-_, _≤_, _<_}
 use native.Mathlib.Omega.{arith}
-use mathlib.Core.Path.{_≡_, refl, sym, ap, subst, _∙_}
+use mathlib.Core.Path.{_≡_, sym, ap, subst, _∙_}
 use mathlib.Core.Logic.{_⊎_, inl, inr, ⊎-elim}
 use mathlib.Core.Bool.{Bool, true}
 use mathlib.Core.List.{List, [], _∷_}
@@ -10,7 +10,7 @@ use lib.ListN.{length, take, drop, length-drop, drop-of-length-le}
 use lib.Seq.{take-at}
 use borrow.Author.Tests.{le-leb}
 use Rattle.flow.specs.Box.{logLimit, State, fresh}
-use Rattle.flow.specs.Records.{statedLength, recordLength, cutShort, recordsIn, recordsOf}
+use Rattle.flow.specs.Records.{statedLength, recordLength, cutShort, recordsOf}
 use Rattle.flow.specs.Verdicts.{runLog}
 use Rattle.flow.specs.Queries.{Reply as Answer, refuse, result}
 use Rattle.flow.proofs.Bools.{choice}
@@ -23,12 +23,8 @@ use Rattle.decision.specs.declared.Monitor.{Monitor}
 use Rattle.decision.specs.declared.Ran.{Ran}
 use Rattle.decision.specs.View.{view}
 use Rattle.decision.specs.Logs.{codesOf, roomFor, RunsBy, Runs}
-use Rattle.decision.proofs.LogLaws.{log-answers, codes-length}
+use Rattle.decision.proofs.LogLaws.{no-records, log-answers, codes-length}
 use Rattle.runlog.specs.Limits.{recordLimit}
-
-no-records : length (recordsOf []) ≡ 0
-unfolding recordsOf recordsIn
-no-records = refl
 
 whole-or-rest : (bytes : List ℕ) → (length bytes ≤ extentOf bytes) ⊎ (3 ≤ extentOf bytes)
 unfolding extentOf recordLength

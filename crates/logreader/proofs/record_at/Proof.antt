@@ -1,6 +1,7 @@
 -- `record_at` asks how far the record goes.
 use native.Mathlib.Omega.{arith}
-use Rattle.logreader.proofs.PlaceLaws.{end-at, found-at, place-fits}
+use Rattle.logreader.proofs.PlaceLaws.{end-at, found-at}
+use Rattle.records.proofs.RecordLaws.{tail-fits}
 use borrow.Author.Needs.{needs}
 use Rattle.logreader.proofs.record_at.Statement.{statement}
 use Rattle.logreader.proofs.record_at.Tie as tie
@@ -21,7 +22,7 @@ extent-requires : tie.Need-extent-requires
 extent-requires c κs = search needs
 
 add-t9 : tie.Need-add-t9
-add-t9 c = omega (arith, place-fits (c .before .before .before .before .args .log .now) (c .before .before .before .before .args .at) (c .extent .result) (c .before .before .if1 .left) (c .extent .ensures))
+add-t9 c = omega (arith, tail-fits (c .before .before .before .before .args .log .now) (c .before .before .before .before .args .at) (c .extent .result) (c .extent .ensures) (omega arith))
 
 returns-2 : tie.Need-returns-2
 returns-2 c = found-at _ _ _ (c .before .before .if1 .left) (c .extent .ensures)

@@ -41,8 +41,8 @@ returns-4 : tie.Need-returns-4
 unfolding view rulesOf ruleOf
 returns-4 c =
     λ q a. modified-as _ _ _ _ _ _
-    (diverts _ _ _ _ q a (c .before .before .before .before .before .before .before .before .before .before .before .before .before .before .if1 .left) _ (c .before .before .before .before .before .before .before .before .before .before .before .before .before .in-use .ensures) (c .before .before .before .before .before .before .before .before .before .before .before .before .if2 .left) _ (c .before .before .before .before .before .before .before .before .before .before .before .write-to .ensures) _ _ (c .before .before .before .before .judge .ensures) (c .before .before .before .count .ensures) (c .before .before .if3 .left))
-    (diverted-to _ _ _ _ q a (c .before .before .before .before .before .before .before .before .before .before .before .before .before .before .if1 .left) _ (c .before .before .before .before .before .before .before .before .before .before .before .before .before .in-use .ensures) (c .before .before .before .before .before .before .before .before .before .before .before .before .if2 .left) _ (c .before .before .before .before .before .before .before .before .before .before .before .write-to .ensures))
+    (diverts _ _ _ _ q a (c .before .before .before .before .before .before .before .before .before .before .before .before .if1 .left) _ (c .before .before .before .before .before .before .before .before .before .before .before .in-use .ensures) (c .before .before .before .before .before .before .before .before .before .before .if2 .left) _ (c .before .before .before .before .before .before .before .before .before .write-to .ensures) _ _ (c .before .before .judge .ensures) (c .before .count .ensures) (c .if3 .left))
+    (diverted-to _ _ _ _ q a (c .before .before .before .before .before .before .before .before .before .before .before .before .if1 .left) _ (c .before .before .before .before .before .before .before .before .before .before .before .in-use .ensures) (c .before .before .before .before .before .before .before .before .before .before .if2 .left) _ (c .before .before .before .before .before .before .before .before .before .write-to .ensures))
 
 pub stopped-spec : {M : Type 1} → statement M
 stopped-spec =
