@@ -43,7 +43,7 @@ impl Monitor {
         let effect = self.state.admit(call)?;
         Ok(match self.rules.lowest_broken(&self.state, &effect.flow) {
             None => {
-                self.state.apply(effect);
+                self.state.apply(&effect);
                 Answer::Allow
             }
             Some((number, action)) => self.stop(call, number, action),
@@ -54,7 +54,7 @@ impl Monitor {
     fn stop(&mut self, call: Call, number: u8, action: Action) -> Answer {
         match self.diversion(call, action) {
             Some((flow, substitute)) => {
-                self.state.give(flow);
+                self.state.give(&flow);
                 Answer::Modify(number, substitute)
             }
             None => Answer::Inhibit(number),

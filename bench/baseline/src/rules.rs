@@ -65,6 +65,8 @@ pub struct Rules {
     apart: [Set; Item::LIMIT],
     /// The items that `apart` has something for.
     separated: Set,
+    /// The items of all rules.
+    watched: Set,
 }
 
 impl Rules {
@@ -75,6 +77,7 @@ impl Rules {
             forbidden: [Set::EMPTY; Container::LIMIT],
             apart: [Set::EMPTY; Item::LIMIT],
             separated: Set::EMPTY,
+            watched: Set::EMPTY,
         }
     }
 
@@ -95,6 +98,7 @@ impl Rules {
     fn mark(&mut self, condition: Condition) {
         match condition {
             Condition::Forbid(item, containers) => {
+                self.watched |= Set::only(item.index());
                 for n in containers.members() {
                     self.forbidden[Container::member(n).index()] |= Set::only(item.index());
                 }
@@ -102,13 +106,24 @@ impl Rules {
             Condition::Separate(first, second) => {
                 self.apart[first.index()] |= Set::only(second.index());
                 self.apart[second.index()] |= Set::only(first.index());
-                self.separated |= Set::only(first.index()) | Set::only(second.index());
+                let both = Set::only(first.index()) | Set::only(second.index());
+                self.separated |= both;
+                self.watched |= both;
             }
         }
     }
 
     /// The number and the action of the lowest rule that the flow would break.
     pub fn lowest_broken(&self, state: &State, flow: &Flow) -> Option<(u8, Action)> {
+        if flow.items().meets(self.watched) {
+            self.lowest_of_all(state, flow)
+        } else {
+            None
+        }
+    }
+
+    /// The same for a flow of items that rules speak of.
+    fn lowest_of_all(&self, state: &State, flow: &Flow) -> Option<(u8, Action)> {
         if !flow.gainers().members().any(|n| self.is_broken_at(Container::member(n), state, flow)) {
             return None;
         }

@@ -25,6 +25,11 @@ pub struct Flow(pub [Gift; 2]);
 impl Flow {
     const NONE: Flow = Flow([Gift::NONE; 2]);
 
+    /// The items of the gifts.
+    pub fn items(&self) -> Set {
+        self.0[0].items | self.0[1].items
+    }
+
     /// The containers that gain an item.
     pub fn gainers(&self) -> Set {
         self.0[0].to | self.0[1].to
@@ -303,13 +308,13 @@ impl State {
 
 /// Changes.
 impl State {
-    pub fn apply(&mut self, effect: Effect) {
-        self.give(effect.flow);
+    pub fn apply(&mut self, effect: &Effect) {
+        self.give(&effect.flow);
         self.change(effect.change);
     }
 
-    pub fn give(&mut self, flow: Flow) {
-        for gift in flow.0 {
+    pub fn give(&mut self, flow: &Flow) {
+        for gift in &flow.0 {
             for n in gift.to.members() {
                 self.items[Container::member(n).index()] |= gift.items;
             }
