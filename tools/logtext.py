@@ -126,7 +126,9 @@ def read_run(word: str, text: str) -> Iterable[int]:
     return range(first, last + 1)
 
 
-def set_text(numbers: Iterable[int], names: Names = NO_NAMES, comma: str = ",") -> str:
+def set_text(
+    numbers: Iterable[int], names: Names = NO_NAMES, comma: str = ",", dash: str = "-"
+) -> str:
     """A set of numbers, runs of three and more as low-high."""
     runs: List[List[int]] = []
     for number in sorted(numbers):
@@ -136,7 +138,7 @@ def set_text(numbers: Iterable[int], names: Names = NO_NAMES, comma: str = ",") 
             runs.append([number])
     words = []
     for run in runs:
-        words += [f"{run[0]}-{run[-1]}"] if len(run) > 2 else map(names.word, run)
+        words += [f"{run[0]}{dash}{run[-1]}"] if len(run) > 2 else map(names.word, run)
     return comma.join(words) or EMPTY_SET
 
 

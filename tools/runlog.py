@@ -9,7 +9,6 @@ import os
 import shutil
 import signal
 import stat
-import subprocess
 import sys
 import textwrap
 from collections import Counter
@@ -18,7 +17,7 @@ from typing import BinaryIO, List, NamedTuple, NoReturn, Optional
 
 sys.dont_write_bytecode = True
 
-import modelpath  # noqa: E402
+import modelpath  # noqa: E402, F401
 from limits import LOG_LIMIT  # noqa: E402
 from logtext import (  # noqa: E402
     REFUSAL_WORDS,
@@ -28,12 +27,9 @@ from logtext import (  # noqa: E402
     record_text,
     split_records,
 )
+from program import ROOT, Failure, answers_of, ready_program, run_program  # noqa: E402
 
-ROOT = Path(modelpath.ROOT)
-PROGRAM = ROOT / "target" / "bin" / "runlog"
 STORY = ROOT / "logs" / "rowers.log.txt"
-BUILD = ["rt", "check", "runlog"]
-SOURCES = ("src", "specs", "proofs")  # of a crate
 STANDARD = "-"
 SHOWN_BYTES = 16  # of a raw value in --show
 ANSWER_WIDTH = 11
@@ -42,7 +38,6 @@ WIDEST = 120
 
 TOO_LONG = 1
 BAD_INPUT = 2
-NO_PROGRAM = 3
 
 DESCRIPTION = "Run a log and print what each record gets. Without FILE: a demonstration."
 REFUSAL_LINES = "\n".join(f"    {number:>2}  {word}" for number, word in REFUSAL_WORDS.items())
@@ -97,17 +92,10 @@ NEXT = """Try next:
   ./runlog logs/rowers.log.txt              the same log, the program's lines alone
   ./runlog --show logs/run-b.log.txt        a write that a rule diverts, and two refusals
   ./runlog --show logs/evaluation.log.txt   copies, a move, an upload and a combination
-  tools/logtool graph logs/rowers.log.txt -o rowers.svg
-                                            the state after the log as a picture
+  tools/logtool explain logs/rowers.log.txt what each record does, and why it is stopped
+  tools/logtool draw logs/rowers.log.txt -o rowers.html
+                                            the log as pictures, record by record, in a browser
   ./runlog --help                           what goes in and what comes out"""
-
-
-class Failure(Exception):
-    """What went wrong and what to do about it, with the exit status."""
-
-    def __init__(self, status: int, message: str) -> None:
-        super().__init__(message)
-        self.status = status
 
 
 def say(message: str) -> None:
@@ -179,70 +167,6 @@ def read_log(path: str) -> Log:
         raise Failure(BAD_INPUT, message) from error
 
 
-# The program.
-
-
-def is_outdated(program: Path) -> bool:
-    """Whether a file that the program may depend on is newer than it."""
-    built = program.stat().st_mtime
-    files = (file for part in SOURCES for file in ROOT.glob(f"crates/*/{part}/**/*"))
-    return any(file.is_file() and file.stat().st_mtime > built for file in files)
-
-
-def build() -> None:
-    """Prove and build the program; what rt reports goes to standard error."""
-    command = " ".join(BUILD)
-    say(f"building the program ({command}): its proofs are checked, which may take some minutes")
-    with subprocess.Popen(BUILD, cwd=ROOT, stdout=subprocess.PIPE, stderr=subprocess.STDOUT) as run:
-        for line in run.stdout or []:
-            if line.startswith(b"rt: ") or b"error" in line:
-                sys.stderr.write(line.decode(errors="replace"))
-                sys.stderr.flush()
-    if run.returncode != 0 or not PROGRAM.is_file():
-        again = "correct what it reports (target/log/ has all of it) and run ./runlog again"
-        raise Failure(NO_PROGRAM, f"{command} ended with status {run.returncode}; {again}")
-    os.utime(PROGRAM)  # rt leaves a program as it is if nothing in its sources differs
-
-
-def ready_program(chosen: Optional[str]) -> Path:
-    """The program to run: the chosen one, or the repository's, built if need be."""
-    if chosen is not None:
-        return Path(chosen).absolute()
-    found = PROGRAM.is_file()
-    if found and not is_outdated(PROGRAM):
-        return PROGRAM
-    if shutil.which(BUILD[0]):
-        build()
-    elif found:
-        say("the command rt is missing: the program is run as it is, older than files of crates/")
-    else:
-        advice = "install the Rattle kit, and put its bin/ on the PATH"
-        raise Failure(NO_PROGRAM, f"no program is built, and the command rt is missing: {advice}")
-    return PROGRAM
-
-
-def run_program(program: Path, log: Log, output: Optional[int]) -> bytes:
-    """Run the program on a log; what it writes, if the output is a pipe."""
-    try:
-        run = subprocess.run([str(program)], input=log.data, stdout=output)
-    except OSError as error:
-        raise Failure(NO_PROGRAM, f"cannot run '{program}': {error.strerror}") from error
-    if run.returncode == -signal.SIGPIPE:
-        raise BrokenPipeError
-    if run.returncode != 0 and not log.too_long:
-        raise Failure(NO_PROGRAM, f"'{program}' ended with status {run.returncode}")
-    return run.stdout or b""
-
-
-def answers_of(program: Path, log: Log) -> List[str]:
-    """The lines that the program writes."""
-    lines = run_program(program, log, subprocess.PIPE).decode("ascii", "replace").splitlines()
-    count = 1 if log.too_long else len(split_records(log.data))
-    if len(lines) != count:
-        raise Failure(NO_PROGRAM, f"'{program}' wrote {len(lines)} lines for {count} records")
-    return lines
-
-
 # Answers beside their records.
 
 
@@ -303,7 +227,7 @@ def show(rows: List[Row], answers: List[str]) -> None:
 
 def show_log(program: Path, log: Log) -> None:
     """Each record beside its answer."""
-    answers = answers_of(program, log)
+    answers = answers_of(program, log.data)
     if log.too_long:
         print(answers[0])
         return
@@ -323,7 +247,7 @@ def demonstrate(program: Path) -> None:
     """The story of the two rowers, with the program's answers."""
     log = read_log(str(STORY))
     head, _, body = (log.text or b"").partition(b"\n\n")
-    answers = answers_of(program, log)
+    answers = answers_of(program, log.data)
     print(f"A demonstration: the log {STORY.relative_to(ROOT)}.\n\n{head_text(head)}\n\n{WORDS}\n")
     show(rows_of(log._replace(text=body)), answers)
     words = Counter(answer.split()[0] for answer in answers)
@@ -363,14 +287,14 @@ def make_parser() -> Parser:
 def run(arguments: argparse.Namespace) -> int:
     """Do what the command line says; the exit status."""
     if arguments.file is None:
-        demonstrate(ready_program(arguments.program))
+        demonstrate(ready_program(arguments.program, say))
         return 0
     log = read_log(arguments.file)
-    program = ready_program(arguments.program)
+    program = ready_program(arguments.program, say)
     if arguments.show:
         show_log(program, log)
     else:
-        run_program(program, log, None)
+        run_program(program, log.data, None)
     sys.stdout.flush()
     if log.too_long:
         name = shown_name(arguments.file)

@@ -12,26 +12,32 @@ import tempfile
 from importlib.machinery import SourceFileLoader
 from importlib.util import module_from_spec, spec_from_loader
 from types import ModuleType
-from typing import Dict, Iterable, List, NamedTuple, Tuple
+from typing import Iterable, List, NamedTuple, Tuple
 from unittest import mock
-from xml.etree import ElementTree
 
 import modelpath
 import limits
 import logtext
-import picture
 from checks import Checks, Options
 from choices import Choices
 from faults import EDGES
 from generate import MIXES, generate_records
-from records import Call, combination, deny, encode, frame_bytes
+from records import frame_bytes
 from test_runs import RUN_B_INPUT, RUN_B_OUTPUT
 from tracker import State, Tracker
 
 DEFAULT_SEED = 20260
 LOGTOOL = [sys.executable, os.path.join(modelpath.ROOT, "tools", "logtool")]
+RUN_B_FAULT = "found 2 bytes of record 9, expected at least 3; the log is cut short"
+TOO_LONG = "found more than 65536 bytes"
+COMMANDS = {  # each with the options that it cannot do without here
+    "assemble": [],
+    "disassemble": [],
+    "show": [],
+    "explain": ["--model-only"],
+    "draw": ["-o", "none.svg"],
+}
 LOGS = sorted(glob.glob(os.path.join(modelpath.ROOT, "logs", "*.log.txt")))
-SVG = "{http://www.w3.org/2000/svg}"
 
 # A text and its bytes in hex, which go both ways.
 FORM_PAIRS = [
@@ -285,12 +291,16 @@ def command(words: List[str], data: bytes = b"") -> Result:
     return Result(status, output.getvalue(), errors.getvalue())
 
 
-def check_output(checks: Checks, words: List[str], data: bytes, expected: bytes) -> None:
-    """Check the output of a command that goes well."""
+def check_output(
+    checks: Checks, words: List[str], data: bytes, expected: bytes, fault: str = ""
+) -> None:
+    """Check the output of a command that goes well, on a log without a fault or with this one."""
     result = command(words, data)
     name = "logtool " + " ".join(words)
     checks.equal(f"{name}: output", result.output, expected)
-    checks.equal(f"{name}: status and errors", (result.status, result.message), (0, ""))
+    checks.equal(f"{name}: status", result.status, 1 if fault else 0)
+    fits = fault in result.message if fault else not result.message
+    checks.true(f"{name}: errors", fits, result.message)
 
 
 def check_bad(checks: Checks, words: List[str], parts: List[str], data: bytes = b"") -> None:
@@ -305,13 +315,17 @@ def check_bad(checks: Checks, words: List[str], parts: List[str], data: bytes = 
 
 def test_standard_input_and_output(checks: Checks, options: Options) -> None:
     text = logtext.disassemble(RUN_B_INPUT)
-    check_output(checks, ["assemble", "-"], text, RUN_B_INPUT)
-    check_output(checks, ["assemble", "-", "-o", "-"], text, RUN_B_INPUT)
-    check_output(checks, ["disassemble", "-"], RUN_B_INPUT, text)
+    check_output(checks, ["assemble", "-"], text, RUN_B_INPUT, RUN_B_FAULT)
+    check_output(checks, ["assemble", "-", "-o", "-"], text, RUN_B_INPUT, RUN_B_FAULT)
+    check_output(checks, ["disassemble", "-"], RUN_B_INPUT, text, RUN_B_FAULT)
+    whole = RUN_B_INPUT[:-2]
+    check_output(checks, ["assemble", "-"], logtext.disassemble(whole), whole)
+    check_output(checks, ["disassemble", "-"], whole, logtext.disassemble(whole))
     for words in (["assemble", "-"], ["disassemble", "-"], ["show", "-"]):
         check_output(checks, words, b"", b"")
     long = bytes(limits.LOG_LIMIT + 1)
-    check_output(checks, ["assemble", "-"], logtext.disassemble(long), long)
+    check_output(checks, ["assemble", "-"], logtext.disassemble(long), long, TOO_LONG)
+    check_output(checks, ["disassemble", "-"], long, logtext.disassemble(long), TOO_LONG)
 
 
 def test_files(checks: Checks, options: Options) -> None:
@@ -320,28 +334,30 @@ def test_files(checks: Checks, options: Options) -> None:
         for path, data in ((log, RUN_B_INPUT), (bad, b"start 0\n\nopne 0\n")):
             with open(path, "wb") as file:
                 file.write(data)
-        check_output(checks, ["disassemble", log, "-o", text], b"", b"")
-        check_output(checks, ["assemble", text], b"", RUN_B_INPUT)
+        check_output(checks, ["disassemble", log, "-o", text], b"", b"", RUN_B_FAULT)
+        check_output(checks, ["assemble", text], b"", RUN_B_INPUT, RUN_B_FAULT)
         out = os.path.join(place, "out")
         check_bad(checks, ["assemble", bad, "-o", out], [f"{bad}, line 3: found 'opne'"])
         checks.true("nothing written after an error", not os.path.exists(out))
         check_bad(checks, ["disassemble", log, "-o", log], [log, "the input itself"])
         check_bad(checks, ["disassemble", log, "-o", place], [place, "expected a place to write"])
         check_bad(checks, ["assemble", place], [place, "expected a file that can be read"])
-        check_bad(checks, ["graph", log, "-o", out], [out, ".svg or .dot"])
+        check_bad(checks, ["draw", log, "-o", out], [out, "ends in .svg, .html, .dot"])
 
 
 def test_bad_commands(checks: Checks, options: Options) -> None:
     check_bad(checks, [], ["COMMAND"])
     check_bad(checks, ["unknown"], ["assemble"])
     check_bad(checks, ["assemble"], ["FILE"])
-    for name in ("assemble", "disassemble", "show", "graph"):
-        words = [name, "no-directory/file"]
+    for name, more in COMMANDS.items():
+        words = [name, "no-directory/file", *more]
         check_bad(checks, words, ["no-directory/file", "No such file", "expected a file"])
+        words = [name, modelpath.ROOT, *more]
+        check_bad(checks, words, [modelpath.ROOT, "Is a directory", "expected a file"])
     check_bad(checks, ["assemble", "-"], ["standard input, line 1: found 'x'"], b"x\n")
-    for name in ("show", "graph"):
-        parts = ["standard input", "more than 65536 bytes", "expected at most"]
-        check_bad(checks, [name, "-"], parts, bytes(limits.LOG_LIMIT + 1))
+    for name in ("show", "explain", "draw"):
+        parts = ["standard input", TOO_LONG, "expected at most", "cut it into several"]
+        check_bad(checks, [name, "-", *COMMANDS[name]], parts, bytes(limits.LOG_LIMIT + 1))
 
 
 def test_terminal_gets_no_bytes(checks: Checks, options: Options) -> None:
@@ -360,7 +376,7 @@ def test_terminal_gets_no_bytes(checks: Checks, options: Options) -> None:
 
 def test_own_process(checks: Checks, options: Options) -> None:
     for words, status in ((["disassemble", "-"], 0), (["show", "no-directory/file"], 2)):
-        result = subprocess.run(LOGTOOL + words, input=b"\x10", capture_output=True, timeout=60)
+        result = subprocess.run(LOGTOOL + words, input=b"\x10\x00\x00", capture_output=True, timeout=60)
         checks.equal(f"own process {words}: status", result.returncode, status)
         checks.equal(f"own process {words}: messages", result.stderr.count(b"\n"), int(status > 0))
 
@@ -375,7 +391,7 @@ def test_closed_output(checks: Checks, options: Options) -> None:
 
 
 def test_help(checks: Checks, options: Options) -> None:
-    for name in ("", "assemble", "disassemble", "show", "graph"):
+    for name in ("", *COMMANDS):
         result = command([*filter(None, [name]), "--help"])
         text = result.output.decode()
         checks.equal(f"{name} --help: status", result.status, 0)
@@ -397,15 +413,12 @@ def test_show(checks: Checks, options: Options) -> None:
         "8  refused 8 (missing)    write 0 descriptor=2\n"
         "9  refused 1 (cut short)  raw 10 00  # cut short\n"
     )
-    check_output(checks, ["show", "-"], RUN_B_INPUT, expected.encode())
+    check_output(checks, ["show", "-"], RUN_B_INPUT, expected.encode(), RUN_B_FAULT)
     text_file = os.path.join(modelpath.ROOT, "logs", "run-b.log.txt")
-    check_output(checks, ["show", text_file], b"", expected.encode())
+    check_output(checks, ["show", text_file], b"", expected.encode(), RUN_B_FAULT)
     long = frame_bytes(0xFF, bytes(5000))
     shown = f"1  refused 2 (unknown tag)  raw ff 1388 {'00' * 16}...  # unknown tag ff hex\n"
     check_output(checks, ["show", "-"], long, shown.encode())
-
-
-# The pictures.
 
 
 def state_after(log: bytes) -> State:
@@ -413,101 +426,6 @@ def state_after(log: bytes) -> State:
     tracker = Tracker()
     tracker.run_log(log)
     return tracker.state
-
-
-def crowded_log() -> bytes:
-    """A log with many items, descriptors, names, links and rules."""
-    records = [Call(limits.START, process) for process in limits.PROCESSES]
-    records.append(Call(limits.CREATE, 0, 0, 0, 24))
-    records += [Call(limits.LABEL, 0, 24, item) for item in range(0, 64, 2)]
-    records += [Call(limits.LINK, 0, 0, name) for name in range(1, 128, 2)]
-    records += [Call(limits.DEVICE, 0, 30, 2), Call(limits.MAP_BOTH, 0, 30)]
-    for process in limits.PROCESSES:
-        records += [Call(limits.OPEN, process, 0, descriptor) for descriptor in range(1, 30)]
-        records.append(Call(limits.MAP_BOTH if process % 2 else limits.MAP_READ, process, 1))
-    records += [deny(1, range(0, 64, 2), 1, 3)] * 20 + [combination(1, 3)] * 12
-    return b"".join(map(encode, records))
-
-
-def box_of(group: ElementTree.Element) -> Tuple[float, float, float, float]:
-    """Left, top, right and bottom of a box."""
-    sizes: Dict[str, float] = {
-        key: float(group.find(f"{SVG}rect").get(key)) for key in ("x", "y", "width", "height")
-    }
-    right, bottom = sizes["x"] + sizes["width"], sizes["y"] + sizes["height"]
-    return sizes["x"], sizes["y"], right, bottom
-
-
-def texts_outside(group: ElementTree.Element) -> List[str]:
-    """The texts of a group that do not fit in its box."""
-    left, top, right, bottom = box_of(group)
-    return [
-        text.text
-        for text in group.iter(f"{SVG}text")
-        if not left < float(text.get("x")) < right - len(text.text) * picture.CHARACTER
-        or not top + picture.TEXT_SIZE < float(text.get("y")) < bottom
-    ]
-
-
-def check_svg(checks: Checks, name: str, state: State) -> None:
-    """Check form, boxes and links of a picture."""
-    svg = ElementTree.fromstring(picture.svg_text(state, name))
-    groups = {group.get("id"): group for group in svg.iter(f"{SVG}g")}
-    shown = [f"container-{container}" for container in picture.shown_containers(state)]
-    checks.equal(f"{name}: boxes", [g for g in groups if g.startswith("container")], shown)
-    heads = sum(1 for _ in svg.iter(f"{SVG}polygon"))
-    checks.equal(f"{name}: a head a link", heads, len(state.links))
-    places = [box_of(groups[key]) for key in shown]
-    width, height = float(svg.get("width")), float(svg.get("height"))
-    inside = all(a >= 0 and b >= 0 and c <= width and d <= height for a, b, c, d in places)
-    checks.true(f"{name}: boxes inside", inside)
-    apart = all(
-        one[2] < two[0] or two[2] < one[0] or one[3] < two[1] or two[3] < one[1]
-        for number, one in enumerate(places)
-        for two in places[:number]
-    )
-    checks.true(f"{name}: boxes apart", apart)
-    checks.equal(f"{name}: texts", [t for key in shown for t in texts_outside(groups[key])], [])
-
-
-def check_dot(checks: Checks, name: str, state: State) -> None:
-    """Check boxes and links of a dot text."""
-    lines = picture.dot_text(state, name).splitlines()
-    checks.equal(f"{name}: dot frame", (lines[0], lines[-1]), ("digraph state {", "}"))
-    edges = [line.split(" [")[0].strip() for line in lines if "constraint" in line]
-    checks.equal(f"{name}: dot links", edges, [f"c{u} -> c{v}" for u, v in sorted(state.links)])
-    boxes = sum(1 for line in lines if line.startswith("    c") and "fillcolor" in line)
-    checks.equal(f"{name}: dot boxes", boxes, len(picture.shown_containers(state)))
-    checks.true(f"{name}: dot quotes", all(line.count('"') % 2 == 0 for line in lines))
-
-
-def test_pictures(checks: Checks, options: Options) -> None:
-    logs = {"no records": b"", "run B": RUN_B_INPUT, "crowded": crowded_log()}
-    for seed in range(options.seed, options.seed + 10):
-        logs[f"log of seed {seed}"] = b"".join(generate_records(seed, 300, "deep"))
-    for name, log in logs.items():
-        state = state_after(log)
-        check_svg(checks, name, state)
-        check_dot(checks, name, state)
-    crowded = state_after(crowded_log())
-    checks.equal("crowded: links", len(crowded.links), 2 + 16 + 8)
-    checks.equal("crowded: rules", len(crowded.rules), 32)
-    ElementTree.fromstring(picture.svg_text(State(), 'a\x01"<&\udc80'))
-    checks.true("a strange name", '"a?\\"<&?\\l' in picture.dot_text(State(), 'a\x01"<&\udc80'))
-
-
-def test_graph_command(checks: Checks, options: Options) -> None:
-    state = state_after(RUN_B_INPUT)
-    title = "State after standard input"
-    dot, svg = (draw(state, title).encode() for draw in (picture.dot_text, picture.svg_text))
-    check_output(checks, ["graph", "-"], RUN_B_INPUT, dot)
-    check_output(checks, ["graph", "-", "--format", "svg"], RUN_B_INPUT, svg)
-    with tempfile.TemporaryDirectory() as place:
-        for ending, expected in ((".dot", dot), (".svg", svg), (".SVG", svg)):
-            path = os.path.join(place, "picture" + ending)
-            check_output(checks, ["graph", "-", "-o", path], RUN_B_INPUT, b"")
-            with open(path, "rb") as file:
-                checks.equal(f"graph -o picture{ending}", file.read(), expected)
 
 
 # The logs.

@@ -1,0 +1,66 @@
+"""The difference of two states, part by part."""
+
+from typing import Dict, FrozenSet, List, NamedTuple, Optional, Tuple, TypeVar
+
+import modelpath  # noqa: F401  (before the modules of the model)
+from limits import CONTAINERS, FILES
+from provenance import Link
+from records import Rule
+from tracker import State
+
+Key = TypeVar("Key")
+Moves = Dict[Key, Tuple[Optional[int], Optional[int]]]  # where an entry led before, and leads now
+
+
+class Changes(NamedTuple):
+    """What is different in a later state."""
+
+    started: List[int]  # processes
+    ended: List[int]
+    used: List[int]  # files and pipes that came into use
+    freed: List[int]  # and those that are no longer in use
+    gained: Dict[int, FrozenSet[int]]  # items by container
+    lost: Dict[int, FrozenSet[int]]
+    linked: List[Link]
+    unlinked: List[Link]
+    names: "Moves[int]"
+    descriptors: "Moves[Tuple[int, int]]"  # by process and descriptor
+    rules: List[Rule]
+
+    @property
+    def nothing(self) -> bool:
+        """Whether the states are equal."""
+        return not any(self)
+
+
+def moves(before: Dict[Key, int], after: Dict[Key, int]) -> "Moves[Key]":
+    """The entries of a table that lead elsewhere now."""
+    return {
+        key: (before.get(key), after.get(key))
+        for key in sorted({*before, *after})  # type: ignore[type-var]
+        if before.get(key) != after.get(key)
+    }
+
+
+def items_more(less: State, more: State) -> Dict[int, FrozenSet[int]]:
+    """What each container holds in one state and not in the other."""
+    pairs = ((c, more.items[c] - less.items[c]) for c in CONTAINERS if more.items[c] != less.items[c])
+    return {container: items for container, items in pairs if items}
+
+
+def changes_between(before: State, after: State) -> Changes:
+    """What is different after a record."""
+    used, used_after = before.used() & {*FILES}, after.used() & {*FILES}
+    return Changes(
+        sorted(after.live - before.live),
+        sorted(before.live - after.live),
+        sorted(used_after - used),
+        sorted(used - used_after),
+        items_more(before, after),
+        items_more(after, before),
+        sorted(after.links - before.links),
+        sorted(before.links - after.links),
+        moves(before.names, after.names),
+        moves(before.descriptors, after.descriptors),
+        after.rules[len(before.rules) :],
+    )

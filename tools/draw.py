@@ -1,0 +1,219 @@
+"""The state after a record as one picture, in SVG or in Graphviz dot."""
+
+import textwrap
+from typing import Iterable, List, Tuple
+
+import modelpath  # noqa: F401  (before the modules of the model)
+from boxes import CHARACTER, CHIP_HEIGHT, COLOURS, GAP, GONE, LINE, NEVER, NEW, STOPPED, STYLE, TEXT_SIZE
+from boxes import Content, Token, chip, element, number, path, token_elements
+from explain import explain
+from names import Own
+from phrases import action_text, rule_text
+from provenance import Step
+from scene import HEAD, MARGIN, Contents, Painter, Plan, Scene, contents_of, head_element
+from scene import make_plan, needed, pair_of
+from views import View, views_of
+from words import Words
+
+NARROWEST = 760.0
+TITLE_SIZE = 15
+
+# The colour of an answer's mark.
+ANSWER_COLOURS = {
+    "allow": "#0a7d2c",
+    "rule": "#1f5fa8",
+    "inhibit": "#c81e1e",
+    "modify": "#b45309",
+    "refused": "#5b6672",
+}
+KEY = [
+    (chip(1), "held"),
+    (chip(1, NEW), "gained"),
+    (chip(1, GONE), "gone"),
+    (chip(1, STOPPED), "would break a rule here"),
+    (chip(1, "", NEVER), "forbidden by a rule"),
+]
+LINK_KEY = [("", "mapped memory: what the arrow leads to is fed"), (NEW, "new"), (GONE, "ended")]
+
+
+def printable(name: str) -> str:
+    """A name that text of any sort can hold."""
+    return "".join(character if character.isprintable() else "?" for character in name)
+
+
+def title_text(view: View, count: int, name: str) -> str:
+    """What the picture shows, in words."""
+    number = view.step.number if view.step else 0
+    return f"{printable(name)}: after record {number} of {count}"
+
+
+def rule_lines(view: View, own: Own) -> List[str]:
+    """The loaded rules in words."""
+    words = Words(own, view.moment.sorts)
+    return [
+        f"rule {number}: {rule_text(words, rule)}; {action_text(words, rule)}"
+        for number, rule in enumerate(view.moment.state.rules)
+    ]
+
+
+# The parts of an SVG around the boxes.
+
+
+class Sheet:
+    """Elements one below the other, at a place that moves down."""
+
+    def __init__(self, width: float, y: float) -> None:
+        self.width = width
+        self.y = y
+        self.elements: List[str] = []
+
+    def text(self, text: str, sort: str = "", size: float = TEXT_SIZE, **more: object) -> None:
+        """A text, in as many lines as the width asks for."""
+        most = int((self.width - 2 * MARGIN) / (CHARACTER * size))
+        for line in textwrap.wrap(text, most, subsequent_indent="    "):
+            indent = len(line) - len(line.lstrip())
+            x = MARGIN + indent * CHARACTER * size
+            said = {"sort": sort} if sort else {}
+            place = {"x": x, "y": self.y + size}
+            self.elements.append(element("text", line.strip(), **said, **place, **more))
+            self.y += size + 5
+
+    def row(self, parts: Iterable[Tuple[List[Token], str]]) -> None:
+        """Tokens, each with words behind them; full rows go on below."""
+        x = float(MARGIN)
+        for tokens, words in parts:
+            said = [*tokens, Token(words)]
+            room = sum(token.width + GAP for token in said)
+            if x > MARGIN and x + room > self.width - MARGIN:
+                x, self.y = float(MARGIN), self.y + LINE
+            for token in said:
+                self.elements += token_elements(token, x, self.y)
+                x += token.width + GAP
+            x += 2 * GAP
+        self.y += LINE
+
+
+def head(view: View, count: int, name: str, own: Own, width: float) -> Sheet:
+    """The title, the record and its answer."""
+    sheet = Sheet(width, MARGIN)
+    title = title_text(view, count, name)
+    sheet.text(title, size=TITLE_SIZE, style=f"font-size:{TITLE_SIZE}px;font-weight:bold")
+    if view.step:
+        said = explain(view.step, own)
+        sheet.text(said.record, sort="t")
+        sheet.text(said.sentence)
+        colour = ANSWER_COLOURS[view.step.answer.word]
+        sheet.text(f"{said.answer}: {said.meaning}", style=f"fill:{colour};font-weight:bold")
+    sheet.y += GAP
+    return sheet
+
+
+def link_key(sheet: Sheet) -> None:
+    """What the arrows are."""
+    x = float(MARGIN)
+    for mark, words in LINK_KEY:
+        y = sheet.y + CHIP_HEIGHT / 2
+        line = path("M", x, y, "L", x + 34 - HEAD, y)
+        sheet.elements.append(element("path", sort=f"l {mark}".strip(), d=line))
+        sheet.elements.append(head_element(x + 34, y, -HEAD, mark))
+        sheet.elements.append(element("text", words, x=x + 34 + GAP, y=sheet.y + 12))
+        x += 34 + 3 * GAP + Token(words).width
+    sheet.y += LINE
+
+
+def foot(view: View, own: Own, width: float, y: float) -> Sheet:
+    """The rules, the items by their own names, and what the marks mean."""
+    sheet = Sheet(width, y)
+    for line in rule_lines(view, own):
+        sheet.text(line)
+    sheet.y += GAP
+    words = Words(own)
+    named = [item for item in range(len(COLOURS)) if words.own_name("item", item)]
+    if named:
+        sheet.row(([chip(item)], words.own_name("item", item)) for item in named)
+    sheet.row(([token], meaning) for token, meaning in KEY)
+    link_key(sheet)
+    return sheet
+
+
+# SVG.
+
+
+def scene_text(scene: Scene, plan: Plan) -> str:
+    """The groups of a scene."""
+    lines = []
+    for key, elements in scene.items():
+        x, y = plan.origin(key)
+        moved = f' transform="translate({number(x)} {number(y)})"' if x or y else ""
+        lines.append(f'<g id="{key}"{moved}>{"".join(elements)}</g>')
+    return "\n".join(lines)
+
+
+def headings_text(plan: Plan) -> str:
+    """The words over the columns."""
+    top = min((y for _, y in plan.places.values()), default=0.0)
+    return "".join(element("text", text, sort="h", x=x, y=top - 9) for x, text in plan.headings)
+
+
+def plan_of(view: View, contents: Contents, top: float) -> Plan:
+    """The plan of one view."""
+    return make_plan(needed([contents]), {pair_of(link) for link in view.links()}, top)
+
+
+def svg_text(steps: List[Step], at: int, name: str, own: Own) -> str:
+    """The state after a record as SVG."""
+    view = views_of(steps[:at])[-1]
+    contents = contents_of(view, own)
+    width = max(NARROWEST, plan_of(view, contents, 0).width)
+    above = head(view, len(steps), name, own, width)
+    plan = plan_of(view, contents, above.y)
+    below = foot(view, own, width, plan.height)
+    height = below.y + MARGIN
+    size = f'width="{number(width)}" height="{number(height)}"'
+    lines = [
+        f'<svg xmlns="http://www.w3.org/2000/svg" {size} '
+        f'viewBox="0 0 {number(width)} {number(height)}">',
+        element("title", title_text(view, len(steps), name)),
+        f"<style>{STYLE}</style>",
+        '<rect width="100%" height="100%" fill="#fff"/>',
+        *above.elements,
+        headings_text(plan),
+        scene_text(Painter(plan).scene(view, contents), plan),
+        *below.elements,
+        "</svg>",
+    ]
+    return "\n".join(filter(None, lines)) + "\n"
+
+
+# Graphviz dot.
+
+
+def dot_string(lines: Iterable[str]) -> str:
+    """Lines as a label, each set left."""
+    escaped = (line.replace("\\", "\\\\").replace('"', '\\"') for line in lines)
+    return '"' + "".join(f"{line}\\l" for line in escaped) + '"'
+
+
+def dot_box(content: Content) -> str:
+    """A box as a node; an item is a number in brackets."""
+    lines = [
+        " ".join(f"[{token.text}]" if token.item >= 0 else token.text for token in section)
+        for section in content.sections
+    ]
+    return f"  c{content.container} [label={dot_string(lines)}];"
+
+
+def dot_text(steps: List[Step], at: int, name: str, own: Own) -> str:
+    """The state after a record as Graphviz dot."""
+    view = views_of(steps[:at])[-1]
+    label = dot_string([title_text(view, len(steps), name), *rule_lines(view, own)])
+    lines = [
+        "digraph state {",
+        f"  label={label}; labelloc=t; labeljust=l; rankdir=LR;",
+        '  fontname="monospace"; node [shape=box, fontname="monospace"];',
+    ]
+    lines += [dot_box(content) for content in contents_of(view, own).values()]
+    styles = {"": "", NEW: ' [color="#0a7d2c", penwidth=2]', GONE: " [style=dashed]"}
+    for (source, target), mark in sorted(view.links().items()):
+        lines.append(f"  c{source} -> c{target}{styles[mark]};")
+    return "\n".join([*lines, "}", ""])

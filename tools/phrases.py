@@ -1,0 +1,185 @@
+"""Calls, rules, answers and the hops of an item in words: the tables by kind, tag and answer.
+
+A new kind of call is a line in CALLS and, if it gives items, one in HOPS. A new
+sort of rule is a line in RULES, a new answer one in ANSWERS.
+"""
+
+from typing import Dict, Union
+
+import modelpath  # noqa: F401  (before the modules of the model)
+from limits import (
+    CALL_TAG,
+    CLOSE,
+    COMBINATION_TAG,
+    CREATE,
+    DENY_TAG,
+    DEVICE,
+    DIVERT_ACTION,
+    DUP,
+    EXIT,
+    FORK,
+    INHIBIT_ACTION,
+    KINDS,
+    LABEL,
+    LIMIT_TAG,
+    LINK,
+    MAP_BOTH,
+    MAP_READ,
+    OPEN,
+    PIPE,
+    PROCESS_CONTAINERS,
+    READ,
+    RENAME,
+    START,
+    TRUNCATE,
+    UNLINK,
+    UNMAP,
+    WRITE,
+)
+from logtext import FORMS
+from provenance import Origin
+from records import Call, Rule
+from tracker import Answer, State
+from words import Words, set_words
+
+# A call, before it is done. {through} is descriptor a and where it leads.
+CALLS: Dict[int, str] = {
+    START: "{process} starts",
+    OPEN: "{process} opens {name_a} as descriptor {b}",
+    CREATE: "{process} creates {name_a} as a new file, container {c}, open as descriptor {b}",
+    PIPE: "{process} makes a new pipe, container {c}, open as descriptors {a} and {b}",
+    DEVICE: "{process} opens {container_b} as descriptor {a}",
+    DUP: "{process} copies {through} to descriptor {b}",
+    CLOSE: "{process} closes {through}",
+    READ: "{process} reads from {through}",
+    WRITE: "{process} writes to {through}",
+    TRUNCATE: "{process} truncates {through}",
+    MAP_READ: "{process} maps {through}, to read",
+    MAP_BOTH: "{process} maps {through}, both ways",
+    UNMAP: "{process} unmaps {container_a}",
+    UNLINK: "{process} unlinks {name_a}",
+    RENAME: "{process} renames {name_a} to {name_b}",
+    LINK: "{process} makes {name_b} lead where {name_a} leads",
+    FORK: "{process} forks {child}",
+    EXIT: "{process} exits",
+    LABEL: "{item_b} comes in from outside and is given to {container_a}",
+}
+
+# How an item gets on by a call.
+HOPS: Dict[int, str] = {
+    READ: "{target} reads it from {giver}",
+    WRITE: "{giver} writes it to {target}",
+    MAP_READ: "{target} maps {giver} to read",
+    MAP_BOTH: "{process} maps {mapped} both ways",
+    FORK: "{target} is forked from {giver}",
+    LABEL: "it comes in from outside, by a label of {target}",
+}
+DIVERTED = "{giver} writes it, and rule {rule} diverts the write to {target}"
+
+# A rule, and what becomes of a call that would break it.
+RULES: Dict[int, str] = {
+    DENY_TAG: "{first} may not be in {containers}",
+    COMBINATION_TAG: "no container may hold both {first} and {second}",
+    LIMIT_TAG: "{first} may be in {containers} only",
+}
+EMPTY_RULES: Dict[int, str] = {  # with an empty set
+    DENY_TAG: "{first} may be anywhere, for the set is empty",
+    LIMIT_TAG: "{first} may be nowhere, for the set is empty",
+}
+ACTIONS: Dict[int, str] = {
+    INHIBIT_ACTION: "a call that would break it is inhibited",
+    DIVERT_ACTION: "a write that would break it is diverted to {substitute}",
+}
+
+# An answer.
+ANSWERS: Dict[str, str] = {
+    "allow": "the call is done",
+    "rule": "the rule is loaded, as rule {0}",
+    "inhibit": "it would break rule {0}, and nothing is done",
+    "modify": "it would break rule {0}, and the write goes to {substitute} instead",
+    "refused": "nothing is done",
+}
+
+# Why a call that breaks a diverting rule is not diverted, by the model's words.
+OBSTACLES: Dict[str, str] = {
+    "action inhibits": "",
+    "not a write": "rule {rule} diverts writes only, and this is no write",
+    "substitute not in use": "rule {rule} cannot divert it: {substitute} is not in use",
+    "diverted write breaks a rule": "rule {rule} cannot divert it: a write to {substitute} would "
+    "break rule {broken}",
+}
+
+WORD_OF_KIND = {form.lead[0]: form.word for form in FORMS if form.tag == CALL_TAG}
+
+
+def through_text(words: Words, call: Call, state: State) -> str:
+    """Descriptor a of the caller, and where it leads."""
+    target = state.descriptors.get((call.process, call.a))
+    led = "" if target is None else f", {words.container(target)}"
+    return f"descriptor {call.a}{led}"
+
+
+def call_text(words: Words, call: Call, state: State) -> str:
+    """A call in words, by the state before it."""
+    if call.kind not in KINDS:
+        return f"a call of kind {call.kind}, which is unknown"
+    return CALLS[call.kind].format(
+        process=words.process(call.process),
+        a=call.a,
+        b=call.b,
+        c=call.c,
+        through=through_text(words, call, state),
+        name_a=words.name(call.a),
+        name_b=words.name(call.b),
+        container_a=words.container(call.a),
+        container_b=words.container(call.b),
+        child=words.process(call.a),
+        item_b=words.item(call.b),
+    )
+
+
+def rule_text(words: Words, rule: Rule) -> str:
+    """What a rule asks, in words."""
+    first, last = rule.items[0], rule.items[-1]
+    shapes = RULES if rule.containers else {**RULES, **EMPTY_RULES}
+    return shapes[rule.tag].format(
+        first=words.item(first),
+        second=words.item(last),
+        containers=set_words(words, rule.containers),
+    )
+
+
+def action_text(words: Words, rule: Rule) -> str:
+    """What becomes of a call that would break a rule."""
+    wrong = f"with an unknown action, {rule.action}"
+    return ACTIONS.get(rule.action, wrong).format(substitute=words.container(rule.substitute))
+
+
+def sentence(words: Words, record: Union[Call, Rule, None], state: State) -> str:
+    """A record in words."""
+    if record is None:
+        return "bytes that are no record of a known tag and length"
+    if isinstance(record, Call):
+        return call_text(words, record, state)
+    return f"a rule: {rule_text(words, record)}; {action_text(words, record)}"
+
+
+def answer_meaning(words: Words, answer: Answer) -> str:
+    """An answer in words."""
+    substitute = words.container(answer.numbers[-1]) if answer.numbers else ""
+    return ANSWERS[answer.word].format(*answer.numbers, substitute=substitute)
+
+
+def hop_text(words: Words, origin: Origin) -> str:
+    """How an item got on by the record of an origin, links left out."""
+    target = origin.path[0]
+    ends = sorted((target, target if origin.giver is None else origin.giver))
+    process = next((end for end in ends if end in PROCESS_CONTAINERS), ends[0])
+    mapped = next((end for end in ends if end != process), ends[-1])
+    return (HOPS[origin.kind] if origin.rule is None else DIVERTED).format(
+        giver="" if origin.giver is None else words.container(origin.giver),
+        target=words.container(target),
+        process=words.container(process),
+        mapped=words.container(mapped),
+        rule=origin.rule,
+    )

@@ -1,0 +1,161 @@
+"""A log run in the model record by record, with the way of every item that a container holds.
+
+An Origin says how a container got an item. It is made when the container gains
+the item and has the giver's own Origin of that moment, so the way of an item is
+a chain that ends at a label and that later records cannot change.
+"""
+
+from typing import Dict, Iterator, List, NamedTuple, Optional, Tuple, Union
+
+import modelpath  # noqa: F401  (before the modules of the model)
+from contents import gifts
+from limits import CALL_TAG, CREATE, FORK, PIPE, VALUE_LENGTHS, process_container
+from records import Call, Rule, decode_call, decode_rule, read_frame
+from tracker import ALLOW, Answer, State, Tracker, work_out
+
+Link = Tuple[int, int]
+MADE = {CREATE: "file", PIPE: "pipe"}  # what the new container of a call is
+DONE = ("allow", "modify")  # answers to a call that changes the state
+BREAKING = ("inhibit", "modify")  # answers that name a rule which would be broken
+
+
+class Origin(NamedTuple):
+    """How a container got an item."""
+
+    record: int
+    kind: int  # of the call
+    rule: Optional[int]  # that diverted the write
+    giver: Optional[int]  # the container that gave the item; None: a label
+    path: Tuple[int, ...]  # the container given to, then along links to the holder
+    began: Tuple[int, ...]  # the record in which each link of the path began
+    before: Optional["Origin"]  # how the giver got it
+
+
+Origins = Dict[Tuple[int, int], Origin]  # by container and item
+
+
+class Moment(NamedTuple):
+    """A state with its past."""
+
+    state: State
+    origins: Origins
+    began: Dict[Link, int]  # the record in which each link began
+    sorts: Dict[int, str]  # which containers were last made as files and which as pipes
+    loaded: Tuple[int, ...]  # the record of each rule
+
+
+class Step(NamedTuple):
+    """A record, what it got, and the moments before and after it."""
+
+    number: int  # from 1
+    data: bytes
+    record: Union[Call, Rule, None]  # None if it has no known tag and length
+    answer: Answer
+    before: Moment
+    after: Moment
+    judged: Optional[Moment]  # what a call that breaks a rule would have led to
+
+
+def fresh() -> Moment:
+    """The moment before the first record."""
+    return Moment(State(), {}, {}, {}, ())
+
+
+def record_of(data: bytes) -> Union[Call, Rule, None]:
+    """The call or the rule of a record; None if it has no known tag and length."""
+    frame = read_frame(data)
+    if frame is None or len(frame.value) != VALUE_LENGTHS.get(frame.tag):
+        return None
+    if frame.tag == CALL_TAG:
+        return decode_call(frame.value)
+    return decode_rule(frame.tag, frame.value)
+
+
+def gifts_of(call: Call, answer: Answer, before: State) -> List[Tuple[Optional[int], int]]:
+    """Each giver with the container given to; a fork gives to the child alone."""
+    if call.kind == FORK:
+        return [(call.caller, process_container(call.a))]
+    return gifts(call, answer, before)
+
+
+def routes(state: State, container: int) -> Dict[int, Tuple[int, ...]]:
+    """A shortest path along links to everything in a container's reach."""
+    targets: Dict[int, List[int]] = {}
+    for source, target in sorted(state.links):
+        targets.setdefault(source, []).append(target)
+    found = {container: (container,)}
+    queue = [container]
+    for source in queue:
+        for target in targets.get(source, []):
+            if target not in found:
+                found[target] = (*found[source], target)
+                queue.append(target)
+    return found
+
+
+def grown(moment: Moment, after: State, number: int, call: Call, answer: Answer) -> Origins:
+    """The origins after a call: what is no longer held left out, what was gained put in."""
+    before = moment.state
+    origins = {key: way for key, way in moment.origins.items() if key[1] in after.items[key[0]]}
+    rule = answer.numbers[0] if answer.word == "modify" else None
+    for giver, target in gifts_of(call, answer, before):
+        given = {call.b} if giver is None else before.items[giver]
+        if not given:
+            continue
+        for receiver, path in routes(before, target).items():
+            began = tuple(moment.began[link] for link in zip(path, path[1:]))
+            for item in given & (after.items[receiver] - before.items[receiver]):
+                past = None if giver is None else moment.origins[giver, item]
+                way = Origin(number, call.kind, rule, giver, path, began, past)
+                origins.setdefault((receiver, item), way)
+    return origins
+
+
+def moved_on(moment: Moment, after: State, number: int, call: Call, answer: Answer) -> Moment:
+    """The moment after a call that was done, or that would have been."""
+    began = {link: moment.began.get(link, number) for link in after.links}
+    sorts = moment.sorts
+    if call.kind in MADE:
+        sorts = {**sorts, call.c: MADE[call.kind]}
+    return Moment(after, grown(moment, after, number, call, answer), began, sorts, moment.loaded)
+
+
+def next_moment(
+    moment: Moment, after: State, number: int, record: Union[Call, Rule, None], answer: Answer
+) -> Moment:
+    """The moment after a record."""
+    if isinstance(record, Call) and answer.word in DONE:
+        return moved_on(moment, after, number, record, answer)
+    if answer.word == "rule":
+        return moment._replace(state=after, loaded=(*moment.loaded, number))
+    return moment
+
+
+def steps_of(log: bytes) -> Iterator[Step]:
+    """The steps of a log."""
+    tracker = Tracker()
+    moment = fresh()
+    position: Optional[int] = 0
+    number = 0
+    while position is not None and position < len(log):
+        number += 1
+        answer, end = tracker.answer_record(log, position)
+        data = log[position:end]
+        record = record_of(data)
+        judged = None
+        if isinstance(record, Call) and answer.word in BREAKING:
+            worked = work_out(moment.state, record)
+            judged = moved_on(moment, worked, number, record, ALLOW)
+        after = next_moment(moment, tracker.state, number, record, answer)
+        yield Step(number, data, record, answer, moment, after, judged)
+        moment, position = after, end
+
+
+def chain(origin: Origin) -> List[Origin]:
+    """The way of an item, from its label on."""
+    way = []
+    step: Optional[Origin] = origin
+    while step is not None:
+        way.append(step)
+        step = step.before
+    return way[::-1]

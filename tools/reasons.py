@@ -1,0 +1,361 @@
+"""Why a record is refused, and what would have passed in its place.
+
+TESTS has a function for each refusal. It gives the tests of that row that fail,
+each with the field to change and the values with which it would pass.
+"""
+
+from typing import Any, Callable, Dict, List, NamedTuple, Optional, Sequence, Union
+
+import modelpath  # noqa: F401  (before the modules of the model)
+import limits
+from limits import DESCRIPTORS, DEVICES, FILES, HEADER_LENGTH, ITEMS, KINDS, NAMES, PROCESSES
+from limits import RULE_LIMIT, VALUE_LENGTHS, process_container
+from logtext import FORMS, Form
+from phrases import WORD_OF_KIND
+from records import Call, Rule, read_frame
+from tracker import (
+    FIELD_RANGES,
+    NEEDS_DESCRIPTOR,
+    NEEDS_NAME,
+    NEW_CONTAINER,
+    NEW_DESCRIPTORS,
+    NEW_NAME,
+    NEW_PROCESS,
+    State,
+    call_refusals,
+    first_refusal,
+    forbids,
+    rule_refusals,
+    substitutes,
+)
+from words import Words, joined, numbers_text, plural
+
+Record = Union[Call, Rule]
+RULE_ITEMS = ("first", "second")  # the items of a rule as fields
+
+
+class Failed(NamedTuple):
+    """A test that a record fails."""
+
+    text: str
+    field: str = ""  # the field to change; empty if no other value helps
+    values: Sequence[Any] = ()  # those with which the test passes
+    fitting: str = ""  # what these are called, as in: open one{s}
+    advice: str = ""  # what else to do, or what to do if there are none
+
+
+class Case(NamedTuple):
+    """What the tests look at."""
+
+    words: Words
+    state: State
+    data: bytes
+    record: Any  # a Call or a Rule; None for refusals 1 to 3
+
+    def leads(self, descriptor: int) -> Optional[int]:
+        """Where a descriptor of the caller leads."""
+        return self.state.descriptors.get((self.record.process, descriptor))
+
+
+class Refusal(NamedTuple):
+    """A refusal, and what becomes of the record once its tests are passed."""
+
+    number: int
+    failed: List[Failed]
+    mended: Optional[Record]  # with values that pass these tests; None if there are none
+    then: Optional["Refusal"]  # what the mended record is refused with
+
+
+def refusal_number(state: State, record: Record) -> Optional[int]:
+    """What a record of a known tag and length is refused with."""
+    found = (call_refusals if isinstance(record, Call) else rule_refusals)(state, record)
+    return first_refusal(found) if found else None
+
+
+def replaced(record: Record, field: str, value: Any) -> Record:
+    """A record with one field changed."""
+    if field in RULE_ITEMS:
+        items = list(record.items)
+        items[RULE_ITEMS.index(field)] = value
+        return record._replace(items=tuple(items))
+    return record._replace(**{field: value})
+
+
+# The words for the fields of a call, from the forms of the text.
+
+
+def field_words(form: Form) -> Dict[str, str]:
+    """The word for each field of a call."""
+    words: List[str] = []
+    for part in form.parts:
+        key = part.keys[0].rstrip("=") if part.keys else "unused field"
+        words += [key.rstrip("s") if part.size > 1 else key or "process"] * part.size
+    return dict(zip(Call._fields[1:], words))
+
+
+FIELD_WORDS = {form.lead[0]: field_words(form) for form in FORMS if form.tag == limits.CALL_TAG}
+
+
+# Rows 1 to 5: the form of the record.
+
+
+def cut_short(case: Case) -> List[Failed]:
+    """Row 1."""
+    length = len(case.data)
+    advice = "copy the log again, whole: reading ends here"
+    if length < HEADER_LENGTH:
+        text = f"the log ends in this record's header: {length} of {HEADER_LENGTH} bytes are there"
+    else:
+        whole = HEADER_LENGTH + int.from_bytes(case.data[1:HEADER_LENGTH], "big")
+        text = f"the log ends in this record: {length} of {whole} bytes are there"
+    return [Failed(text, advice=advice)]
+
+
+def unknown_tag(case: Case) -> List[Failed]:
+    """Row 2."""
+    known = joined(f"{tag:02x}" for tag in VALUE_LENGTHS)
+    return [Failed(f"tag {case.data[0]:02x} hex is unknown", advice=f"known tags are {known} hex")]
+
+
+def wrong_length(case: Case) -> List[Failed]:
+    """Row 3."""
+    frame = read_frame(case.data)
+    found = len(frame.value) if frame else 0
+    tag = case.data[0]
+    text = f"a length of {found}, and tag {tag:02x} hex has length {VALUE_LENGTHS[tag]}"
+    return [Failed(text)]
+
+
+def unknown_kind(case: Case) -> List[Failed]:
+    """Row 4."""
+    if isinstance(case.record, Rule):
+        text = f"action {case.record.action} is unknown"
+        return [Failed(text, "action", limits.ACTIONS, "known one{s}")]
+    return [Failed(f"kind {case.record.kind} is unknown", "kind", KINDS, "known one{s}")]
+
+
+def out_of_range(case: Case) -> List[Failed]:
+    """Row 5."""
+    record = case.record
+    if isinstance(record, Rule):
+        return rule_out_of_range(record)
+    kind = WORD_OF_KIND[record.kind]
+    found = []
+    for field, allowed in zip(Call._fields[1:], FIELD_RANGES[record.kind]):
+        value = getattr(record, field)
+        if value not in allowed:
+            text = f"{FIELD_WORDS[record.kind][field]} {value} is out of range"
+            found.append(Failed(text, field, allowed, f"number{{s}} for {kind} there"))
+    return found
+
+
+def rule_out_of_range(rule: Rule) -> List[Failed]:
+    """Row 5 of a rule."""
+    found = [
+        Failed(f"item {item} is out of range", field, ITEMS, "item{s}")
+        for field, item in zip(RULE_ITEMS, rule.items)
+        if item not in ITEMS
+    ]
+    allowed = sorted(substitutes(rule.action))
+    if rule.substitute not in allowed:
+        text = f"substitute {rule.substitute} is out of range"
+        found.append(Failed(text, "substitute", allowed, f"one{{s}} for action {rule.action}"))
+    return found
+
+
+# Rows 6 to 10: the state.
+
+
+def dead_process(case: Case) -> List[Failed]:
+    """Row 6."""
+    text = f"{case.words.process(case.record.process)} is not live"
+    live = sorted(case.state.live)
+    return [Failed(text, "process", live, "live one{s}", "no process is live: start one first")]
+
+
+def users(case: Case, container: int) -> str:
+    """What keeps a container in use, in short."""
+    state = case.state
+    names = sorted(name for name, target in state.names.items() if target == container)
+    found = [plural("name", names)] if names else []
+    for process in sorted({key[0] for key, target in state.descriptors.items() if target == container}):
+        numbers = [d for (p, d), t in sorted(state.descriptors.items()) if (p, t) == (process, container)]
+        found.append(f"{plural('descriptor', numbers)} of process {process}")
+    links = [case.words.link(*link) for link in sorted(state.links) if container in link]
+    return joined([*found, *(f"link {link}" for link in links)])
+
+
+def taken_descriptors(case: Case) -> List[Failed]:
+    """Row 7, the descriptors to open."""
+    call = case.record
+    fields = NEW_DESCRIPTORS.get(call.kind, "")
+    closed = [d for d in DESCRIPTORS if case.leads(d) is None]
+    owner = case.words.process(call.process)
+    none = f"{owner} has every descriptor open: close one first"
+    found = []
+    for field in fields:
+        number = getattr(call, field)
+        target = case.leads(number)
+        if target is not None:
+            text = f"descriptor {number} of {owner} is open and leads to {case.words.container(target)}"
+            found.append(Failed(text, field, closed, "closed one{s}", none))
+    return found
+
+
+def taken(case: Case) -> List[Failed]:
+    """Row 7."""
+    call, state, words = case.record, case.state, case.words
+    found = []
+    field = NEW_PROCESS.get(call.kind)
+    if field and getattr(call, field) in state.live:
+        text = f"{words.process(getattr(call, field))} is live already"
+        dead = [process for process in PROCESSES if process not in state.live]
+        found.append(Failed(text, field, dead, "one{s} not live", "every process is live"))
+    found += taken_descriptors(case)
+    field = NEW_NAME.get(call.kind)
+    if field and getattr(call, field) in state.names:
+        name = getattr(call, field)
+        text = f"{words.name(name)} is bound and leads to {words.container(state.names[name])}"
+        unbound = [number for number in NAMES if number not in state.names]
+        found.append(Failed(text, field, unbound, "unbound one{s}", "every name is bound"))
+    field = NEW_CONTAINER.get(call.kind)
+    used = state.used()
+    if field and getattr(call, field) in used:
+        container = getattr(call, field)
+        text = f"container {container} is in use by {users(case, container)}"
+        free = [number for number in FILES if number not in used]
+        found.append(Failed(text, field, free, "free one{s}", "every container is in use"))
+    return found
+
+
+def missing_descriptor(case: Case) -> List[Failed]:
+    """Row 8, a closed descriptor; a truncate needs one that leads to a file or a pipe."""
+    call = case.record
+    owner = case.words.process(call.process)
+    text = f"descriptor {call.a} of {owner} is closed"
+    files = call.kind == limits.TRUNCATE
+    kept = FILES if files else limits.CONTAINERS
+    opened = [d for d in DESCRIPTORS if case.leads(d) in kept]
+    fitting = "open one{s} with a file or pipe" if files else "open one{s}"
+    return [Failed(text, "a", opened, fitting, f"{owner} has none open: open one first")]
+
+
+def missing(case: Case) -> List[Failed]:
+    """Row 8."""
+    call, state, words = case.record, case.state, case.words
+    if call.kind in NEEDS_DESCRIPTOR:
+        return missing_descriptor(case)
+    if call.kind in NEEDS_NAME:
+        text = f"{words.name(call.a)} is unbound"
+        none = "no name is bound: create a file first"
+        return [Failed(text, "a", sorted(state.names), "bound one{s}", none)]
+    if call.kind == limits.UNMAP:
+        owner = words.process(call.process)
+        text = f"there is no link between {owner} and {words.container(call.a)}"
+        ends = {end for link in state.links if call.caller in link for end in link}
+        none = f"{owner} has no link at all: map a descriptor first"
+        return [Failed(text, "a", sorted(ends - {call.caller}), "container{s} linked with it", none)]
+    text = f"{words.container(call.a)} is not in use"
+    return [Failed(text, "a", sorted(state.used()), "container{s} in use")]
+
+
+def same_twice(case: Case) -> List[Failed]:
+    """Row 9."""
+    record = case.record
+    if isinstance(record, Rule):
+        others = [item for item in ITEMS if item != record.items[0]]
+        text = f"both items are {record.items[0]}"
+        return [Failed(text, "second", others, "other item{s}")]
+    others = [d for d in DESCRIPTORS if case.leads(d) is None and d != record.a]
+    none = "no other descriptor is closed"
+    return [Failed(f"both descriptors are {record.a}", "b", others, "other closed one{s}", none)]
+
+
+def no_file(case: Case) -> List[Failed]:
+    """Row 10."""
+    device = case.leads(case.record.a)
+    text = f"descriptor {case.record.a} leads to {case.words.container(device or 0)}"
+    files = [d for d in DESCRIPTORS if case.leads(d) in FILES]
+    none = "only a file or a pipe can be truncated, and none is open"
+    return [Failed(text, "a", files, "one{s} with a file or pipe", none)]
+
+
+# Rows 11 and 12: rules.
+
+
+def rules_full(case: Case) -> List[Failed]:
+    """Row 11."""
+    text = f"{RULE_LIMIT} rules are held, the most there can be"
+    return [Failed(text, advice="a rule cannot be removed: put fewer rules into the log")]
+
+
+def broken_places(state: State, rule: Rule) -> List[int]:
+    """The containers that break a rule."""
+    if rule.tag == limits.COMBINATION_TAG:
+        return [c for c in limits.CONTAINERS if state.items[c].issuperset(rule.items)]
+    return [c for c in state.holders(rule.items[0]) if forbids(rule, c, rule.items[0])]
+
+
+def broken_already(case: Case) -> List[Failed]:
+    """Row 12."""
+    rule, words = case.record, case.words
+    places = broken_places(case.state, rule)
+    hold = "holds" if len(places) == 1 else "hold"
+    text = f"{words.containers(places)} {hold} {joined(map(words.item, rule.items))} now"
+    if rule.tag == limits.COMBINATION_TAG:
+        return [Failed(text, advice="load the rule before the two items meet")]
+    inside = rule.tag == limits.DENY_TAG
+    fixed = rule.containers.symmetric_difference(places)
+    change = "without {} in its set" if inside else "with {} in its set too"
+    advice = f"it would be loaded {change.format(numbers_text(places))}, or before the item gets there"
+    return [Failed(text, "containers", [fixed], advice=advice)]
+
+
+TESTS: Dict[int, Callable[[Case], List[Failed]]] = {
+    limits.CUT_SHORT: cut_short,
+    limits.UNKNOWN_TAG: unknown_tag,
+    limits.WRONG_LENGTH: wrong_length,
+    limits.UNKNOWN_KIND: unknown_kind,
+    limits.OUT_OF_RANGE: out_of_range,
+    limits.DEAD_PROCESS: dead_process,
+    limits.TAKEN: taken,
+    limits.MISSING: missing,
+    limits.SAME_TWICE: same_twice,
+    limits.NO_FILE: no_file,
+    limits.RULES_FULL: rules_full,
+    limits.BROKEN_ALREADY: broken_already,
+}
+
+
+# What would have passed.
+
+
+def mend(case: Case, failed: List[Failed]) -> Optional[Record]:
+    """The record with values that pass the failed tests, of a single field one that passes all."""
+    if case.record is None or not all(test.values for test in failed):
+        return None
+    record = case.record
+    for test in failed:
+        record = replaced(record, test.field, test.values[0])
+    if len(failed) == 1:
+        others = (replaced(record, failed[0].field, value) for value in failed[0].values)
+        record = next((r for r in others if refusal_number(case.state, r) is None), record)
+    return record
+
+
+def refusal_of(case: Case, number: int) -> Refusal:
+    """The refusal with a number, taken apart."""
+    failed = TESTS[number](case)
+    mended = mend(case, failed)
+    then = refusal_number(case.state, mended) if mended is not None else None
+    following = refusal_of(case._replace(record=mended), then) if then is not None else None
+    return Refusal(number, failed, mended, following)
+
+
+def failed_text(test: Failed) -> str:
+    """A failed test, and what would have passed, in words."""
+    if not test.values or not test.fitting:
+        return f"{test.text}; {test.advice}" if test.advice else test.text
+    if len(test.values) == 1:
+        return f"{test.text}; the only {test.fitting.format(s='')} is {numbers_text(test.values)}"
+    return f"{test.text}; {test.fitting.format(s='s')} are {numbers_text(test.values)}"

@@ -1,0 +1,212 @@
+"""The places of boxes and links in a picture, and the elements of each.
+
+Devices stand left, processes in the middle, files and pipes right; if there are
+many files, the first of them stand below the devices. A link joins a process
+with another container, so it never crosses a column.
+"""
+
+from typing import Dict, Iterable, List, NamedTuple, Tuple
+
+import modelpath  # noqa: F401  (before the modules of the model)
+from boxes import GONE, LINE, NEW, WIDTH, Content, content_of, draw_content, element, frame, path
+from limits import DEVICES, FILES, PROCESS_CONTAINERS
+from names import Own
+from provenance import Link
+from views import View
+from words import Words
+
+MARGIN = 16
+BETWEEN_BOXES = 10
+BETWEEN_COLUMNS = 150
+HEADING = 26
+ALONE = 14  # files that stand in a single column
+END_ROOM = 7  # between two links at one side of a box
+HEAD = 8  # of an arrow
+
+Group = Tuple[str, ...]  # elements
+Scene = Dict[str, Group]  # by the group's name, in the order of drawing
+Contents = Dict[int, Content]  # by container
+
+
+class Plan(NamedTuple):
+    """Where everything stands."""
+
+    places: Dict[int, Tuple[float, float]]  # the upper left corner of each box
+    heights: Dict[int, float]
+    ends: Dict[Tuple[Link, int], float]  # the height at which a pair's link meets a box
+    headings: List[Tuple[float, str]]  # of the columns
+    width: float
+    height: float
+
+    def origin(self, key: str) -> Tuple[float, float]:
+        """The place of a group; links are drawn where they are."""
+        sort, number = key.split("-")[:2]
+        return self.places[int(number)] if sort == "container" else (0.0, 0.0)
+
+
+def pair_of(link: Link) -> Link:
+    """The two ends of a link, the process first."""
+    return link if link[0] in PROCESS_CONTAINERS else (link[1], link[0])
+
+
+# Layout.
+
+
+def stack_height(column: List[int], heights: Dict[int, float]) -> float:
+    """The height of boxes below each other."""
+    return sum(heights[container] + BETWEEN_BOXES for container in column)
+
+
+def make_columns(heights: Dict[int, float]) -> List[Tuple[str, List[int]]]:
+    """The containers of each column, with its heading."""
+    left = [c for c in sorted(heights) if c in DEVICES]
+    right = [c for c in sorted(heights) if c in FILES]
+    heading = "devices" if left else ""
+    if len(right) > ALONE:
+        heading = " / ".join(filter(None, [heading, "files and pipes"]))
+        while stack_height([*left, right[0]], heights) <= stack_height(right[1:], heights):
+            left.append(right.pop(0))
+    middle = [c for c in sorted(heights) if c in PROCESS_CONTAINERS]
+    return [(heading, left), ("processes", middle), ("files and pipes", right)]
+
+
+def end_order(pairs: Iterable[Link], columns: List[Tuple[str, List[int]]]) -> Dict:
+    """The pairs that meet each side of each box, in the order of their other ends."""
+    rank = {c: (number, place) for number, (_, col) in enumerate(columns) for place, c in enumerate(col)}
+    sides: Dict[Tuple[int, bool], List[Link]] = {}
+    for process, other in pairs:
+        to_left = rank[other][0] == 0
+        sides.setdefault((process, to_left), []).append((process, other))
+        sides.setdefault((other, not to_left), []).append((process, other))
+    for (container, _), meeting in sides.items():
+        meeting.sort(key=lambda pair: rank[pair[1] if pair[0] == container else pair[0]])
+    return sides
+
+
+def make_plan(heights: Dict[int, float], pairs: Iterable[Link], top: float = MARGIN) -> Plan:
+    """Places for boxes that need these heights, and for links between these pairs."""
+    columns = make_columns(heights)
+    sides = end_order(pairs, columns)
+    full = dict(heights)
+    for (container, _), meeting in sides.items():
+        full[container] = max(full[container], (len(meeting) + 1) * END_ROOM)
+    places: Dict[int, Tuple[float, float]] = {}
+    headings = []
+    x = float(MARGIN)
+    for heading, column in columns:
+        if not column:
+            continue
+        headings.append((x, heading))
+        y = top + HEADING
+        for container in column:
+            places[container] = (x, y)
+            y += full[container] + BETWEEN_BOXES
+        x += WIDTH + BETWEEN_COLUMNS
+    ends = {}
+    for (container, _), meeting in sides.items():
+        for number, pair in enumerate(meeting, 1):
+            share = full[container] * number / (len(meeting) + 1)
+            ends[pair, container] = places[container][1] + share
+    bottom = max((places[c][1] + full[c] for c in places), default=top + LINE)
+    width = x - BETWEEN_COLUMNS + MARGIN if places else WIDTH
+    return Plan(places, full, ends, headings, width, bottom + MARGIN)
+
+
+# Elements.
+
+
+def head_element(x: float, y: float, back: float, mark: str) -> str:
+    """An arrow's head with its point at x; its back lies on the side of the sign."""
+    points = path(x, y, x + back, y - HEAD / 2, x + back, y + HEAD / 2)
+    return element("polygon", sort=f"a {mark}".strip(), points=points)
+
+
+class Painter:
+    """Makes the groups of pictures with one plan; what it has made once it keeps."""
+
+    def __init__(self, plan: Plan) -> None:
+        self.plan = plan
+        self.boxes: Dict[Content, Group] = {}
+        self.links: Dict[Tuple, Group] = {}
+
+    def box(self, content: Content) -> Group:
+        """A box."""
+        if content not in self.boxes:
+            outer = frame(content, self.plan.heights[content.container])
+            self.boxes[content] = (outer, *draw_content(content).elements)
+        return self.boxes[content]
+
+    def link(self, pair: Link, marks: Dict[Link, str]) -> Group:
+        """The links between two containers."""
+        key = (pair, marks.get(pair), marks.get((pair[1], pair[0])))
+        if key not in self.links:
+            self.links[key] = link_group(self.plan, pair, marks)
+        return self.links[key]
+
+    def scene(self, view: View, contents: Contents) -> Scene:
+        """The groups of a view: links, then boxes."""
+        marks = view.links()
+        scene: Scene = {}
+        for pair in sorted({pair_of(link) for link in marks}):
+            scene[f"link-{pair[0]}-{pair[1]}"] = self.link(pair, marks)
+        for container, content in contents.items():
+            scene[f"container-{container}"] = self.box(content)
+        return scene
+
+
+def link_group(plan: Plan, pair: Link, marks: Dict[Link, str]) -> Group:
+    """The curve between two boxes with a head for each link."""
+    left, right = sorted(pair, key=lambda end: plan.places[end][0])
+    x1, x2 = plan.places[left][0] + WIDTH, plan.places[right][0]
+    y1, y2 = plan.ends[pair, left], plan.ends[pair, right]
+    found = [marks[link] for link in ((left, right), (right, left)) if link in marks]
+    mark = next((mark for mark in (NEW, GONE) if mark in found), "")
+    start = x1 + HEAD - 1 if (right, left) in marks else x1
+    end = x2 - HEAD + 1 if (left, right) in marks else x2
+    half = (x1 + x2) / 2
+    curve = path("M", start, y1, "C", half, y1, half, y2, end, y2)
+    group = [element("path", sort=f"l {mark}".strip(), d=curve)]
+    if (right, left) in marks:
+        group.append(head_element(x1, y1, HEAD, marks[right, left]))
+    if (left, right) in marks:
+        group.append(head_element(x2, y2, -HEAD, marks[left, right]))
+    return tuple(group)
+
+
+# What the boxes say.
+
+
+def contents_of(view: View, own: Own) -> Contents:
+    """What each box of a view says."""
+    words = Words(own, view.moment.sorts)
+    return {container: content_of(view, words, container) for container in view.shown()}
+
+
+def next_contents(view: View, own: Own, before: View, contents: Contents) -> Contents:
+    """The same for the view after another; boxes that neither record touches stay as they are."""
+    if view.forbidden is not before.forbidden:
+        return contents_of(view, own)
+    words = Words(own, view.moment.sorts)
+    touched = view.touched() | before.touched()
+    return {
+        c: contents[c] if c in contents and c not in touched else content_of(view, words, c)
+        for c in view.shown()
+    }
+
+
+def all_contents(views: List[View], own: Own) -> List[Contents]:
+    """What the boxes say in each view of a log."""
+    found = [contents_of(views[0], own)]
+    for before, view in zip(views, views[1:]):
+        found.append(next_contents(view, own, before, found[-1]))
+    return found
+
+
+def needed(contents: Iterable[Contents]) -> Dict[int, float]:
+    """The height that each box needs in all of these pictures."""
+    heights: Dict[int, float] = {}
+    for boxes in contents:
+        for container, content in boxes.items():
+            height = draw_content(content).height
+            heights[container] = max(heights.get(container, 0.0), height)
+    return heights

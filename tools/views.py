@@ -1,0 +1,103 @@
+"""What a picture shows: the moment after a record, and what that record changed or would have."""
+
+from typing import Dict, FrozenSet, Iterable, List, NamedTuple, Optional, Set
+
+import modelpath  # noqa: F401  (before the modules of the model)
+from changes import Changes, changes_between
+from limits import CONTAINERS, DENY_TAG, DEVICES, DIVERT_ACTION, PROCESS_CONTAINERS, process_container
+from provenance import Link, Moment, Step, fresh
+from reasons import broken_places
+from tracker import State, forbids
+
+
+class View(NamedTuple):
+    """A moment, with the record before it."""
+
+    step: Optional[Step]  # None before the first record
+    moment: Moment
+    changes: Changes
+    stopped: Dict[int, FrozenSet[int]]  # what a call that breaks a rule would have put where
+    forbidden: Dict[int, Set[int]]  # the items that rules forbid each container
+
+    def mark(self, container: int) -> str:
+        """The mark of a container's box."""
+        if container in self.stopped:
+            return "stopped"
+        process = container - PROCESS_CONTAINERS.start
+        if container in self.changes.used or (process in self.changes.started):
+            return "new"
+        return "gone" if container in self.gone() else ""
+
+    def gone(self) -> Set[int]:
+        """The containers whose use the record ended."""
+        return {*self.changes.freed, *map(process_container, self.changes.ended)}
+
+    def touched(self) -> Set[int]:
+        """The containers whose boxes have a mark of this record."""
+        changes = self.changes
+        found = {*changes.gained, *changes.lost, *changes.used, *self.gone(), *self.stopped}
+        found.update(map(process_container, changes.started))
+        found.update(process_container(process) for process, _ in changes.descriptors)
+        for ends in changes.names.values():
+            found.update(end for end in ends if end is not None)
+        return found
+
+    def shown(self) -> List[int]:
+        """The containers that are drawn: those in use, without devices that nothing concerns."""
+        state = self.moment.state
+        busy = set(state.descriptors.values()) | {end for link in state.links for end in link}
+        busy.update(container for container in CONTAINERS if state.items[container])
+        busy.update(named_devices(state))
+        used = {c for c in state.used() if c in busy or c not in DEVICES}
+        unlinked = {end for link in self.changes.unlinked for end in link}
+        return sorted(used | unlinked | self.gone() | {*self.stopped})
+
+    def links(self) -> Dict[Link, str]:
+        """The links that are drawn, each with its mark."""
+        marks = {link: "" for link in self.moment.state.links}
+        marks.update({link: "new" for link in self.changes.linked})
+        marks.update({link: "gone" for link in self.changes.unlinked})
+        return marks
+
+
+def named_devices(state: State) -> Set[int]:
+    """The devices in the set of a rule that forbids, or to which a rule diverts."""
+    found: Set[int] = set()
+    for rule in state.rules:
+        found.update(rule.containers if rule.tag == DENY_TAG else ())
+        found.update([rule.substitute] if rule.action == DIVERT_ACTION else ())
+    return found & {*DEVICES}
+
+
+def forbidden_items(state: State) -> Dict[int, Set[int]]:
+    """The items that the loaded rules forbid each container."""
+    found: Dict[int, Set[int]] = {}
+    for rule in state.rules:
+        for container in CONTAINERS:
+            if forbids(rule, container, rule.items[0]):
+                found.setdefault(container, set()).add(rule.items[0])
+    return found
+
+
+def stopped_items(step: Step) -> Dict[int, FrozenSet[int]]:
+    """Where a call would have broken its rule, and what would have come there."""
+    if step.judged is None:
+        return {}
+    before, judged = step.before.state, step.judged.state
+    rule = before.rules[step.answer.numbers[0]]
+    return {
+        place: frozenset(rule.items) - before.items[place] for place in broken_places(judged, rule)
+    }
+
+
+def views_of(steps: Iterable[Step]) -> List[View]:
+    """The views of a log: before the first record, then after each."""
+    first = fresh()
+    views = [View(None, first, changes_between(first.state, first.state), {}, {})]
+    for step in steps:
+        before, after = step.before.state, step.after.state
+        rules_kept = len(before.rules) == len(after.rules)
+        forbidden = views[-1].forbidden if rules_kept else forbidden_items(after)
+        changes = changes_between(before, after)
+        views.append(View(step, step.after, changes, stopped_items(step), forbidden))
+    return views
