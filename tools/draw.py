@@ -4,7 +4,7 @@ import textwrap
 from typing import Iterable, List, Tuple
 
 import modelpath  # noqa: F401  (before the modules of the model)
-from boxes import CHARACTER, CHIP_HEIGHT, COLOURS, GAP, GONE, LINE, NEVER, NEW, STOPPED, STYLE, TEXT_SIZE
+from boxes import CHARACTER, CHIP_HEIGHT, COLOURS, GAP, GONE, LINE, NEVER, NEW, STOPPED, STYLE, TEXT_SIZE, TITLE_SIZE
 from boxes import Content, Token, chip, element, number, path, token_elements
 from explain import explain
 from names import Own
@@ -16,7 +16,7 @@ from views import View, views_of
 from words import Words
 
 NARROWEST = 760.0
-TITLE_SIZE = 15
+HEAD_SIZE = 15
 
 # The colour of an answer's mark.
 ANSWER_COLOURS = {
@@ -97,10 +97,10 @@ def head(view: View, count: int, name: str, own: Own, width: float) -> Sheet:
     """The title, the record and its answer."""
     sheet = Sheet(width, MARGIN)
     title = title_text(view, count, name)
-    sheet.text(title, size=TITLE_SIZE, style=f"font-size:{TITLE_SIZE}px;font-weight:bold")
+    sheet.text(title, size=HEAD_SIZE, style=f"font-size:{HEAD_SIZE}px;font-weight:bold")
     if view.step:
         said = explain(view.step, own)
-        sheet.text(said.record, sort="t")
+        sheet.text(said.record, sort="t", size=TITLE_SIZE)
         sheet.text(said.sentence)
         colour = ANSWER_COLOURS[view.step.answer.word]
         sheet.text(f"{said.answer}: {said.meaning}", style=f"fill:{colour};font-weight:bold")

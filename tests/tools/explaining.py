@@ -1,0 +1,361 @@
+"""Tests of explain: sentences, refusals, verdicts, ways, changes, and the program beside the model."""
+
+import tempfile
+from pathlib import Path
+from typing import List
+
+from session import LOGS, STORIES, Session, logtool, story_log
+import limits
+from explain import Explanation, explain
+from logtext import assemble
+from phrases import CALLS
+from provenance import steps_of
+from reasons import TESTS
+from wrong import FAULTS, make_program
+
+# Short logs that others go on from.
+LIVE = "start 0\n"
+FILE = LIVE + "create 0 name=5 descriptor=0 container=24\n"
+HELD = FILE + "label container=24 item=1\n"
+PANEL = HELD + "device 0 descriptor=1 device=panel\nread 0 descriptor=0\n"
+ALL_OPEN = FILE + "".join(f"open 0 name=5 descriptor={d}\n" for d in range(1, 32))
+
+# The last record of each log, and what must be said of it.
+SENTENCES = [
+    ("start 3", ["process 3 starts", "allow: the call is done", "process 3 is live"]),
+    (FILE + "open 0 name=5 descriptor=3", ["process 0 opens name 5 as descriptor 3"]),
+    (
+        FILE,
+        [
+            "process 0 creates name 5 as a new file, container 24, open as descriptor 0",
+            "- file 24 is in use",
+            "- name 5 leads to file 24",
+            "- descriptor 0 of process 0 leads to file 24",
+        ],
+    ),
+    (
+        LIVE + "pipe 0 descriptors=3,4 container=25",
+        ["process 0 makes a new pipe, container 25", "- descriptors 3, 4 of process 0 lead to pipe 25"],
+    ),
+    (LIVE + "device 0 descriptor=1 device=panel", ["opens device 1 (panel) as descriptor 1"]),
+    (FILE + "dup 0 from=0 to=7", ["copies descriptor 0, file 24 to descriptor 7"]),
+    (FILE + "close 0 descriptor=0", ["closes descriptor 0, file 24", "0 is closed; before: file 24"]),
+    (HELD + "read 0 descriptor=0", ["reads from descriptor 0, file 24", "process 0 gained item 1"]),
+    (PANEL + "write 0 descriptor=1", ["writes to descriptor 1, device 1 (panel)", "1 (panel) gained"]),
+    (HELD + "truncate 0 descriptor=0", ["truncates", "- file 24 was emptied: item 1 gone"]),
+    (HELD + "map-read 0 descriptor=0", ["maps", "to read", "- link began: 24 -> process 0"]),
+    (FILE + "map-both 0 descriptor=0", ["both ways", "began: process 0 -> 24", "24 -> process 0"]),
+    (
+        FILE + "map-both 0 descriptor=0\nunmap 0 container=24",
+        ["process 0 unmaps file 24", "link ended: process 0 -> 24", "link ended: 24 -> process 0"],
+    ),
+    (FILE + "unlink 0 name=5", ["process 0 unlinks name 5", "name 5 is unbound; before: file 24"]),
+    (
+        FILE + "rename 0 from=5 to=6",
+        ["renames name 5 to name 6", "- name 5 is unbound; before: file 24", "- name 6 leads to file 24"],
+    ),
+    (FILE + "link 0 from=5 to=6", ["makes name 6 lead where name 5 leads", "name 6 leads to file 24"]),
+    (
+        PANEL + "fork 0 child=2",
+        ["process 0 forks process 2", "process 2 is live", "process 2 gained item 1", "descriptor 0 of process 2"],
+    ),
+    (PANEL + "exit 0", ["process 0 exits", "process 0 is dead", "process 0 was emptied: item 1 gone"]),
+    (HELD, ["item 1 comes in from outside and is given to file 24", "file 24 gained item 1"]),
+    (
+        HELD + "close 0 descriptor=0\nunlink 0 name=5",
+        ["file 24 was emptied: item 1 gone", "file 24 is no longer in use"],
+    ),
+    ("forbid item=1 in=panel divert=port", ["item 1 may not be in device 1 (panel)", "diverted to device 3"]),
+    ("separate items=1,2 inhibit", ["may hold both item 1 and item 2", "inhibited", "1 of 32 rules are held"]),
+    ("confine item=1 to=24,process0 inhibit", ["item 1 may be in process 0 and container 24 only"]),
+    ("forbid item=1 in=none inhibit", ["item 1 may be anywhere, for the set is empty"]),
+    ("confine item=1 to=none inhibit", ["item 1 may be nowhere, for the set is empty"]),
+]
+
+# Calls that are done and change nothing.
+IDLE = [
+    (HELD + "label container=24 item=1", ["nothing: file 24 holds item 1 already"]),
+    (PANEL + "read 0 descriptor=0", ["nothing: process 0 holds item 1 already"]),
+    (FILE + "read 0 descriptor=0", ["nothing: there was nothing to give"]),
+    (FILE + "truncate 0 descriptor=0", ["nothing: file 24 is empty already"]),
+    (
+        HELD + "map-both 0 descriptor=0\ntruncate 0 descriptor=0",
+        ["file 24 is not emptied, for a link leads into it: process 0 -> 24 (record 4)"],
+    ),
+    (FILE + "rename 0 from=5 to=5", ["changed: nothing"]),
+]
+
+# Every row of the refusals.
+REFUSED = [
+    (LIVE + "raw 10 00", ["refused 1 (cut short)", "2 of 3 bytes", "copy the log again"]),
+    (LIVE + "raw 10 0005 0100", ["refused 1 (cut short)", "5 of 8 bytes are there"]),
+    ("raw 14 0000", ["refused 2 (unknown tag)", "tag 14 hex is unknown", "known tags are 10, 11, 12 and 13 hex"]),
+    ("raw 10 0004 01000000", ["refused 3 (wrong length)", "a length of 4, and tag 10 hex has length 5"]),
+    ("raw 10 0005 1400000000", ["refused 4 (unknown kind)", "kind 20 is unknown; known ones are 1 to 19"]),
+    ("raw 12 0004 01020200", ["refused 4 (unknown kind)", "action 2 is unknown; known ones are 0, 1"]),
+    ("start 16", ["refused 5", "process 16 is out of range; numbers for start there are 0 to 15"]),
+    (
+        LIVE + "create 0 name=128 descriptor=0 container=23",
+        [
+            "name 128 is out of range; numbers for create there are 0 to 127",
+            "container 23 is out of range; numbers for create there are 24 to 63",
+            "in its place this gets allow: create 0 name=0 descriptor=0 container=24",
+        ],
+    ),
+    ("raw 10 0005 0100000001", ["unused field 1 is out of range; the only number for start there is 0"]),
+    ("forbid item=64 in=1 inhibit", ["item 64 is out of range; items are 0 to 63"]),
+    ("forbid item=1 in=1 divert=process0", ["substitute 8 is out of range; ones for action 1 are 0 to 7, 24 to 63"]),
+    ("raw 12 0004 01020003", ["substitute 3 is out of range; the only one for action 0 is 0"]),
+    ("exit 4", ["refused 6 (dead process)", "process 4 is not live; no process is live: start one first"]),
+    (LIVE + "exit 4", ["process 4 is not live; the only live one is 0", "gets allow: exit 0"]),
+    (LIVE + LIVE, ["refused 7 (taken)", "process 0 is live already; ones not live are 1 to 15"]),
+    (LIVE + "fork 0 child=0", ["process 0 is live already", "gets allow: fork 0 child=1"]),
+    (
+        FILE + "device 0 descriptor=0 device=panel",
+        ["descriptor 0 of process 0 is open and leads to file 24; closed ones are 1 to 31"],
+    ),
+    (ALL_OPEN + "dup 0 from=1 to=2", ["process 0 has every descriptor open: close one first"]),
+    (
+        FILE + "create 0 name=5 descriptor=0 container=24",
+        [
+            "descriptor 0 of process 0 is open and leads to file 24; closed ones are 1 to 31",
+            "name 5 is bound and leads to file 24; unbound ones are 0 to 4, 6 to 127",
+            "container 24 is in use by name 5 and descriptor 0 of process 0; free ones are 25 to 63",
+            "in its place this gets allow: create 0 name=0 descriptor=1 container=25",
+        ],
+    ),
+    (
+        FILE + "map-both 0 descriptor=0\npipe 0 descriptors=1,2 container=24",
+        ["in use by name 5, descriptor 0 of process 0, link process 0 -> 24 and link 24 -> process 0"],
+    ),
+    (PANEL + "write 0 descriptor=2", ["refused 8 (missing)", "descriptor 2 of process 0 is closed; open ones are 0, 1"]),
+    (LIVE + "read 0 descriptor=2", ["process 0 has none open: open one first"]),
+    (PANEL + "truncate 0 descriptor=2", ["closed; the only open one with a file or pipe is 0"]),
+    (FILE + "open 0 name=6 descriptor=1", ["name 6 is unbound; the only bound one is 5"]),
+    (LIVE + "unlink 0 name=6", ["name 6 is unbound; no name is bound: create a file first"]),
+    (LIVE + "unmap 0 container=24", ["no link between process 0 and container 24; process 0 has no link at all"]),
+    (
+        FILE + "map-read 0 descriptor=0\nunmap 0 container=25",
+        ["the only container linked with it is 24", "gets allow: unmap 0 container=24"],
+    ),
+    (FILE + "label container=25 item=1", ["container 25 is not in use; containers in use are 0 to 8, 24"]),
+    (
+        FILE + "open 0 name=6 descriptor=0",
+        [
+            "refused 7 (taken)",
+            "with that mended, refused with 8 (missing): name 6 is unbound",
+            "in its place this gets allow: open 0 name=5 descriptor=1",
+        ],
+    ),
+    (
+        LIVE + "pipe 0 descriptors=3,3 container=24",
+        ["refused 9 (same twice)", "both descriptors are 3; other closed ones are 0 to 2, 4 to 31"],
+    ),
+    ("separate items=1,1 inhibit", ["both items are 1; other items are 0, 2 to 63"]),
+    (
+        PANEL + "truncate 0 descriptor=1",
+        ["refused 10 (no file)", "descriptor 1 leads to device 1 (panel); the only one with a file or pipe is 0"],
+    ),
+    (
+        LIVE + "device 0 descriptor=1 device=radio\ntruncate 0 descriptor=1",
+        ["only a file or a pipe can be truncated, and none is open"],
+    ),
+    ("separate items=1,2 inhibit\n" * 33, ["refused 11 (rules full)", "32 rules are held", "cannot be removed"]),
+    (
+        PANEL + "forbid item=1 in=24,30,process0 inhibit",
+        [
+            "refused 12 (broken already)",
+            "process 0 and file 24 hold item 1 now",
+            "it would be loaded without 8, 24 in its set",
+            "the way of item 1 to process 0:",
+            "record 3: it comes in from outside, by a label of file 24",
+            "record 5: process 0 reads it from file 24",
+            "in its place this gets rule 0: forbid item=1 in=30 inhibit",
+        ],
+    ),
+    (HELD + "confine item=1 to=25 inhibit", ["it would be loaded with 24 in its set too", "to=24,25"]),
+    (
+        HELD + "label container=24 item=2\nseparate items=1,2 inhibit",
+        ["file 24 holds item 1 and item 2 now", "the way of item 2 to file 24:", "before the two items meet"],
+    ),
+]
+
+# Calls that break a rule.
+DENY = "forbid item=1 in=panel inhibit\n"
+DIVERT = "forbid item=1 in=panel divert=port\n"
+NOT_IN_USE = "forbid item=1 in=panel divert=40\n"
+BOTH = "forbid item=1 in=panel divert=port\nforbid item=1 in=port inhibit\n"
+FAR = (
+    DENY
+    + HELD
+    + "device 0 descriptor=1 device=panel\nmap-both 0 descriptor=1\nstart 1\nopen 1 name=5 descriptor=0\n"
+)
+STOPPED = [
+    (
+        DENY + PANEL + "write 0 descriptor=1",
+        [
+            "inhibit 0: it would break rule 0, and nothing is done",
+            "rule 0 (record 1): item 1 may not be in device 1 (panel)",
+            "device 1 (panel) would hold item 1",
+            "record 4: it comes in from outside, by a label of file 24",
+            "record 6: process 0 reads it from file 24",
+            "this record: process 0 writes it to device 1 (panel)",
+            "changed: nothing",
+        ],
+    ),
+    (
+        DIVERT + PANEL + "write 0 descriptor=1",
+        [
+            "modify 0 3: it would break rule 0, and the write goes to device 3 (port) instead",
+            "device 1 (panel) would hold item 1",
+            "changed: device 3 (port) gained item 1",
+        ],
+    ),
+    (
+        DIVERT + PANEL + "write 0 descriptor=1\nstart 1\ndevice 1 descriptor=0 device=port\n"
+        "device 1 descriptor=1 device=panel\nread 1 descriptor=0\nmap-both 1 descriptor=1",
+        [
+            "rule 0 diverts writes only, and this is no write",
+            "record 7: process 0 writes it, and rule 0 diverts the write to device 3 (port)",
+            "record 11: process 1 reads it from device 3 (port)",
+            "this record: process 1 maps device 1 (panel) both ways",
+        ],
+    ),
+    (NOT_IN_USE + PANEL + "write 0 descriptor=1", ["cannot divert it: container 40 is not in use"]),
+    (BOTH + PANEL + "write 0 descriptor=1", ["a write to device 3 (port) would break rule 1"]),
+    (
+        FAR + "read 0 descriptor=0",
+        [
+            "device 1 (panel) would hold item 1",
+            "this record: process 0 reads it from file 24; links carry it on to device 1 (panel): "
+            "process 0 -> panel (record 6)",
+        ],
+    ),
+    (
+        "confine item=1 to=24,process0 inhibit\n" + PANEL + "fork 0 child=1",
+        ["process 1 would hold item 1", "this record: process 1 is forked from process 0"],
+    ),
+    (
+        "separate items=1,2 inhibit\n" + PANEL + "label container=process0 item=2",
+        ["process 0 would hold item 1 and item 2", "this record: it comes in from outside, by a label of process 0"],
+    ),
+]
+
+
+def text_of(said: Explanation) -> str:
+    """All that is said of a record."""
+    why = [text for _, text in said.why]
+    changes = [f"- {change}" for change in said.changes]
+    if len(changes) == 1:
+        changes.append(f"changed: {said.changes[0]}")
+    return "\n".join([said.record, said.sentence, f"{said.answer}: {said.meaning}", *why, *changes])
+
+
+def check_parts(session: Session, name: str, log: str, parts: List[str]) -> None:
+    """Check what is said of the last record of a log."""
+    *_, last = steps_of(assemble(log.encode()))
+    text = text_of(explain(last))
+    for part in parts:
+        session.checks.true(f"{name}: {log.splitlines()[-1]}: says '{part}'", part in text, text)
+
+
+def test_fixed_logs(session: Session) -> None:
+    """Each kind, each row of the refusals, and each way to break a rule."""
+    for name, table in (("sentence", SENTENCES), ("idle", IDLE), ("refused", REFUSED), ("stopped", STOPPED)):
+        for log, parts in table:
+            check_parts(session, name, log, parts)
+    kinds = {assemble(log.splitlines()[-1].encode())[3] for log, _ in SENTENCES}
+    session.checks.true("a sentence for every kind", kinds >= set(limits.KINDS), str(kinds))
+    session.checks.equal("words for every kind", set(CALLS), set(limits.KINDS))
+    refusals = set(limits.REFUSAL_ORDER) - {limits.SLICE_SHORT}
+    session.checks.equal("tests for every refusal", set(TESTS), refusals)
+
+
+# The command.
+
+
+def test_options(session: Session) -> None:
+    """Which records are shown, and how."""
+    log = str(LOGS / "rowers.log.txt")
+    model = ("explain", log, "--model-only")
+    heads = [line for line in logtool(*model, "--only", "3,7-9,inhibit").output.splitlines() if line[:1].strip()]
+    numbers = [line.split()[0] for line in heads]
+    session.checks.equal("--only", numbers, ["3", "7", "8", "9", "13", "28"])
+    brief = logtool(*model, "--brief").output.splitlines()
+    session.checks.equal("--brief: lines", len(brief), 31)
+    session.checks.true("--brief: the last line", brief[-1].startswith("30 records: 27 allow"), brief[-1])
+    way = logtool(*model, "--way", "26,1").output
+    good = "holds item 1" in way and "25 -> process 1 (record 9)" in way and "record 12: process 1" in way
+    session.checks.true("--way", good, way)
+    way = logtool(*model, "--way", "26,1", "--only", "11").output
+    session.checks.true("--way before", "after record 11, file 26" in way and "does not hold item 1" in way, way)
+    for words, part in [
+        (["--only", "0"], "'--only 0'"),
+        (["--only", "31"], "records 1 to 30"),
+        (["--only", "9-7"], "'--only 9-7'"),
+        (["--only", "denied"], "allow, rule, inhibit, modify, refused"),
+        (["--way", "26"], "as in 26,1"),
+        (["--way", "64,1"], "from 0 to 63"),
+    ]:
+        result = logtool(*model, *words)
+        good = result.status == 2 and not result.output and part in result.message
+        session.checks.true(f"explain {words}", good, str(result))
+    result = logtool("explain", str(LOGS / "evaluation.log.txt"), "--model-only", "--only", "modify")
+    session.checks.equal("--only without a record", result.output, "no record of this log is one of: modify\n")
+
+
+def test_widths(session: Session) -> None:
+    """Lines are at most 100 characters wide where the output is no terminal."""
+    for name in STORIES:
+        text = logtool("explain", str(LOGS / f"{name}.log.txt"), "--model-only").output
+        widest = max(map(len, text.splitlines()))
+        session.checks.true(f"{name}: lines of at most 100", widest <= 100, str(widest))
+
+
+def test_empty_and_cut(session: Session) -> None:
+    """An empty log, and one cut short, are explained to their ends."""
+    result = logtool("explain", "-", "--model-only")
+    session.checks.equal("an empty log", result, (0, "0 records: no answers; the program was not run.\n", ""))
+    result = logtool("explain", "-", "--program", session.standin)
+    session.checks.equal("an empty log, with the program", result.status, 0)
+    result = logtool("explain", "-", "--model-only", data=story_log("rowers") + b"\x10\x00")
+    good = "31  raw 10 00" in result.output and "refused 1 (cut short)" in result.output
+    session.checks.true("cut short: explained", good, result.output[-500:])
+    good = result.status == 1 and "record 31" in result.message and "copy it again" in result.message
+    session.checks.true("cut short: said", good, str((result.status, result.message)))
+
+
+# The program beside the model.
+
+
+def test_program(session: Session) -> None:
+    """The program's answers are compared."""
+    for name in STORIES:
+        result = logtool("explain", str(LOGS / f"{name}.log.txt"), "--program", session.runnable)
+        last = result.output.splitlines()[-1]
+        session.checks.true(f"{name}: program", last.endswith("the program answers the same."), last)
+        wanted = 1 if name == "run-b" else 0
+        session.checks.equal(f"{name}: status", result.status, wanted)
+
+
+def test_wrong_program(session: Session) -> None:
+    """A program that differs from the model is an error."""
+    log = str(LOGS / "rowers.log.txt")
+    with tempfile.TemporaryDirectory() as folder:
+        wrong = make_program(Path(folder) / "wrong", FAULTS["follows one link"])
+        for words in ([], ["--brief"], ["--only", "2"], ["--way", "26,1"]):
+            result = logtool("explain", log, "--program", wrong, *words)
+            session.checks.equal(f"a wrong program, {words}: status", result.status, 4)
+            parts = ["record 28 (write 1 descriptor=1)", "'allow'", "'inhibit 0'", "keep this log"]
+            good = all(part in result.message for part in parts)
+            session.checks.true(f"a wrong program, {words}: message", good, result.message)
+        result = logtool("explain", log, "--program", wrong, "--only", "28")
+        good = "the program answers otherwise: allow" in result.output
+        session.checks.true("a wrong program: the record is marked", good, result.output)
+        fails = Path(folder) / "fails"
+        fails.write_text("#!/bin/sh\nexit 7\n")
+        fails.chmod(0o755)
+        for program, part in ((str(fails), "status 7"), (str(fails) + "x", "cannot run")):
+            result = logtool("explain", log, "--program", program)
+            good = result.status == 3 and part in result.message and "--model-only" in result.message
+            session.checks.true(f"a program that {part}", good and not result.output, str(result))

@@ -1,0 +1,333 @@
+"""Properties of explain and draw on many random logs, checked by means of their own."""
+
+from collections import Counter
+from typing import Any, Dict, Iterator, List, Optional, Set, Tuple
+from xml.etree import ElementTree
+
+from session import Session, logtool
+import drawing
+import page
+import tracker
+from changes import Changes, changes_between
+from choices import Choices
+from draw import svg_text
+from explain import Explanation, explain
+from limits import BROKEN_ALREADY, CONTAINERS, CUT_SHORT, DEVICES, FILES, FORK, KINDS, LABEL
+from limits import MAP_BOTH, MAP_READ, READ, WRITE, process_container
+from names import NO_OWN
+from provenance import DONE, Origin, Step, chain, steps_of
+from randomlogs import log_generator
+from reasons import Case, Refusal, refusal_of, replaced
+from records import Call, encode, read_frame
+from report import full_lines
+from scene import Painter, all_contents, make_plan, needed, pair_of
+from tracker import State, Tracker, frame_refusals
+from views import views_of
+from words import Words
+
+RECORDS = range(20, 51)  # of a log
+LONG = 300  # of a few logs
+LONG_EVERY = 100  # logs, one of which is long
+RULES_FIRST = 4  # rules at the front of a log, at most
+PAGE_EVERY = 20  # logs, one of which becomes a page
+PROGRAM_LOGS = 12
+PROGRESS = 200
+
+WORDS = ("allow", "inhibit", "modify", "rule", "refused")
+
+
+def make_log(seed: int) -> bytes:
+    """The log of a seed: of a modest length, with a few rules at its front."""
+    generator = log_generator(seed)
+    generator.first = min(generator.first, RULES_FIRST)
+    count = LONG if seed % LONG_EVERY == 0 else RECORDS[seed % len(RECORDS)]
+    records = [generator.record() for _ in range(count)]
+    if generator.choices.chance(generator.mix.cut):
+        records.append(generator.cut_record())
+    return b"".join(records)
+
+
+# Where items come from.
+
+
+def gives(call: Call, state: State) -> Set[Tuple[Optional[int], int]]:
+    """Giver and receiver of a call's gifts, by document 01's table of calls."""
+    there = state.descriptors.get((call.process, call.a), -1)
+    me = call.caller
+    table = {
+        READ: {(there, me)},
+        WRITE: {(me, there)},
+        MAP_READ: {(there, me)},
+        MAP_BOTH: {(there, me), (me, there)},
+        FORK: {(me, process_container(call.a))},
+        LABEL: {(None, call.a)},
+    }
+    return table.get(call.kind, set())
+
+
+def hop_fault(steps: List[Step], hop: Origin, item: int) -> str:
+    """What is wrong with one hop of an item."""
+    step = steps[hop.record - 1]
+    before, call = step.before.state, step.record
+    if step.answer.word not in DONE or not isinstance(call, Call):
+        return f"record {hop.record} was not done"
+    pairs = {(call.caller, step.answer.numbers[1])} if step.answer.word == "modify" else gives(call, before)
+    if (hop.giver, hop.path[0]) not in pairs:
+        return f"record {hop.record} gives nothing from {hop.giver} to {hop.path[0]}"
+    if hop.giver is None and (call.kind, call.b) != (LABEL, item):
+        return f"record {hop.record} is no label of item {item}"
+    if hop.giver is not None and item not in before.items[hop.giver]:
+        return f"container {hop.giver} did not hold item {item} before record {hop.record}"
+    for link, began in zip(zip(hop.path, hop.path[1:]), hop.began):
+        states = [steps[number].before.state for number in range(began, hop.record)]
+        if link in steps[began - 1].before.state.links or not all(link in s.links for s in states):
+            return f"link {link} did not last from record {began} to {hop.record}"
+    if item in before.items[hop.path[-1]] or item not in step.after.state.items[hop.path[-1]]:
+        return f"container {hop.path[-1]} did not gain item {item} in record {hop.record}"
+    return ""
+
+
+def way_fault(steps: List[Step], container: int, item: int, origin: Origin) -> str:
+    """What is wrong with the way of an item to a container that holds it."""
+    way = chain(origin)
+    if way[0].giver is not None or way[-1].path[-1] != container:
+        return "the way does not lead from a label to the holder"
+    for first, second in zip(way, way[1:]):
+        if first.path[-1] != second.giver or first.record >= second.record:
+            return f"record {second.record} does not go on from record {first.record}"
+    return next(filter(None, (hop_fault(steps, hop, item) for hop in way)), "")
+
+
+def provenance_faults(steps: List[Step]) -> Iterator[str]:
+    """What is wrong with the ways of all that is held at any moment."""
+    known: Set[int] = set()
+    for step in steps:
+        for moment in filter(None, [step.after, step.judged]):
+            held = {(c, i) for c in CONTAINERS for i in moment.state.items[c]}
+            if held != set(moment.origins):
+                yield f"record {step.number}: ways for {sorted(set(moment.origins) ^ held)[:3]}"
+        for (container, item), origin in step.after.origins.items():
+            if id(origin) not in known:
+                known.add(id(origin))
+                fault = way_fault(steps, container, item, origin)
+                if fault:
+                    yield f"record {step.number}, item {item} in {container}: {fault}"
+
+
+# Changes.
+
+
+def moved(table: Dict, moves: Dict) -> Dict:
+    """A table with some entries leading elsewhere."""
+    changed = {**table, **{key: after for key, (_, after) in moves.items()}}
+    return {key: target for key, target in changed.items() if target is not None}
+
+
+def applied(state: State, changes: Changes) -> State:
+    """A state with changes made to it."""
+    items = {
+        c: (state.items[c] - changes.lost.get(c, frozenset())) | changes.gained.get(c, frozenset())
+        for c in CONTAINERS
+    }
+    return State(
+        (state.live | {*changes.started}) - {*changes.ended},
+        items,
+        (state.links | {*changes.linked}) - {*changes.unlinked},
+        moved(state.names, changes.names),
+        moved(state.descriptors, changes.descriptors),
+        [*state.rules, *changes.rules],
+    )
+
+
+def change_faults(step: Step, said: Explanation) -> Iterator[str]:
+    """Whether the changes are the difference of the states, and are all said."""
+    before, after = step.before.state, step.after.state
+    changes = changes_between(before, after)
+    if applied(before, changes) != after:
+        yield f"record {step.number}: the changes do not lead to the state after it"
+    if {*changes.used} != (after.used() - before.used()) & {*FILES}:
+        yield f"record {step.number}: containers in use"
+    if said.changes[0].startswith("nothing") != (before == after):
+        yield f"record {step.number}: '{said.changes[0]}'"
+    parts = (" gained ", " was emptied: ", "link began: ", "link ended: ")
+    counts = [sum(part in line for line in said.changes) for part in parts]
+    wanted = [len(changes.gained), len(changes.lost), len(changes.linked), len(changes.unlinked)]
+    if counts != wanted:
+        yield f"record {step.number}: {said.changes} for {wanted}"
+    if step.answer.word not in (*DONE, "rule") and before != after:
+        yield f"record {step.number}: {step.answer} changed the state"
+
+
+# Refusals.
+
+
+def numbers_of(state: State, record: Any) -> Set[int]:
+    """The refusals that apply to a record."""
+    return frame_refusals(state, read_frame(encode(record)))
+
+
+def other_value(test: Any, choices: Choices) -> Optional[int]:
+    """A number that is not among the values with which a test passes."""
+    others = [value for value in range(256) if value not in test.values]
+    return choices.pick(others) if others and test.field != "containers" else None
+
+
+def advice_faults(case: Case, refusal: Refusal, choices: Choices) -> Iterator[str]:
+    """Whether what a refusal says would pass does pass, and nothing else does."""
+    failed = refusal.failed
+    if case.record is None or not all(test.values for test in failed):
+        return
+    for test in failed:
+        for value in {0, len(test.values) - 1, choices.below(len(test.values))}:
+            record = case.record
+            for other in failed:
+                record = replaced(record, other.field, other.values[0])
+            record = replaced(record, test.field, test.values[value])
+            if min(numbers_of(case.state, record), default=99) <= refusal.number:
+                yield f"{record} for {test.text} is refused with {numbers_of(case.state, record)}"
+        wrong = other_value(test, choices)
+        if wrong is not None and not numbers_of(case.state, replaced(case.record, test.field, wrong)):
+            yield f"{test.text}: {wrong} would pass, and is not named"
+
+
+def refusal_faults(step: Step, said: Explanation, choices: Choices) -> Iterator[str]:
+    """Whether a refusal is taken apart rightly."""
+    case = Case(Words(), step.before.state, step.data, step.record)
+    refusal: Optional[Refusal] = refusal_of(case, step.answer.numbers[0])
+    last = refusal
+    while refusal is not None:
+        if not refusal.failed:
+            yield f"record {step.number}: no test fails for {refusal.number}"
+        for fault in advice_faults(case, refusal, choices):
+            yield f"record {step.number}: {fault}"
+        case, last, refusal = case._replace(record=refusal.mended), refusal, refusal.then
+    shown = [text for _, text in said.why if text.startswith("in its place this gets ")]
+    if (last.mended is not None) != bool(shown):
+        yield f"record {step.number}: {shown} for {last.mended}"
+    if last.mended is not None:
+        other = Tracker()
+        other.state = step.before.state
+        answer, _ = other.answer_record(encode(last.mended))
+        if answer.word == "refused" or not shown[0].startswith(f"in its place this gets {answer}: "):
+            yield f"record {step.number}: {shown[0]}, and the model answers {answer}"
+
+
+# Rules that would be broken.
+
+
+def stopped_faults(step: Step, said: Explanation) -> Iterator[str]:
+    """Whether the places named would break the rule."""
+    rule = step.before.state.rules[step.answer.numbers[0]]
+    text = "\n".join(line for _, line in said.why)
+    if not tracker.is_broken(step.judged.state, rule) or " would hold " not in text:
+        yield f"record {step.number}: {text}"
+    if f"rule {step.answer.numbers[0]} (record {step.before.loaded[step.answer.numbers[0]]}): " not in text:
+        yield f"record {step.number}: the rule is not named: {text}"
+    if text.count("the way of item") != len(rule.items) or "this record: " not in text:
+        yield f"record {step.number}: the ways: {text}"
+
+
+# All of a log.
+
+
+def step_faults(step: Step, choices: Choices) -> Iterator[str]:
+    """What is wrong with what is said of a record."""
+    said = explain(step)
+    yield from change_faults(step, said)
+    if step.answer.word == "refused":
+        yield from refusal_faults(step, said, choices)
+    if step.judged is not None:
+        yield from stopped_faults(step, said)
+    if not full_lines(said, 100, None) or not said.sentence:
+        yield f"record {step.number}: nothing is said"
+
+
+def picture_faults(steps: List[Step], at: int) -> Iterator[str]:
+    """What is wrong with the picture after a record."""
+    svg = ElementTree.fromstring(svg_text(steps, at, "a log", NO_OWN))
+    view = views_of(steps[:at])[-1]
+    state = view.moment.state
+    drawn = drawing.drawn_containers(svg)
+    wanted = {c for c in state.used() if c not in DEVICES or state.items[c]}
+    if not wanted <= drawn or not drawn <= state.used() | view.gone() | {*view.stopped}:
+        yield f"at {at}: containers {sorted(wanted ^ drawn)}"
+    if drawing.drawn_links(svg) != {pair_of(link) for link in view.links()}:
+        yield f"at {at}: links"
+    for fault in drawing.layout_faults(svg):
+        yield f"at {at}: {fault}"
+    for container in sorted(drawn):
+        held = drawing.drawn_items(svg, container)
+        if held != set(state.items[container]):
+            yield f"at {at}: container {container} holds {sorted(held)} in the picture"
+
+
+def page_faults(steps: List[Step]) -> Iterator[str]:
+    """Whether the differences of a page lead to the pictures of each record."""
+    views = views_of(steps)
+    data = page.page_data(steps, 0, "a log", NO_OWN)
+    contents = all_contents(views, NO_OWN)
+    plan = make_plan(needed(contents), {pair_of(link) for view in views for link in view.links()})
+    painter = Painter(plan)
+    scene: Dict[str, Any] = {}
+    for number, (view, boxes) in enumerate(zip(views, contents)):
+        scene.update(data["differences"][number])
+        shown = {key: tuple(data["elements"][n] for n in group) for key, group in scene.items() if group}
+        if shown != painter.scene(view, boxes):
+            yield f"page, record {number}: another picture"
+    if [record["a"].split(" (")[0] for record in data["records"]] != [str(s.answer) for s in steps]:
+        yield "page: answers"
+
+
+def log_faults(seed: int) -> Tuple[List[str], List[Step]]:
+    """What is wrong with the explanations and pictures of a log."""
+    log = make_log(seed)
+    choices = Choices(seed)
+    steps = list(steps_of(log))
+    faults = [] if [s.answer for s in steps] == Tracker().run_log(log) else ["answers"]
+    faults += provenance_faults(steps)
+    for step in steps:
+        faults += step_faults(step, choices)
+    for at in {len(steps), choices.below(len(steps) + 1)}:
+        faults += picture_faults(steps, at)
+    if seed % PAGE_EVERY == 0:
+        faults += page_faults(steps)
+    return faults, steps
+
+
+def test_properties(session: Session) -> None:
+    """Every property on every log."""
+    counts: Counter = Counter()
+    for done, seed in enumerate(range(session.seed, session.seed + session.logs), 1):
+        faults, steps = log_faults(seed)
+        again = f"tests/tools/run --only manylogs --seed {seed} --logs 1"
+        text = f"{len(faults)} faults, the first: {faults[:1]}\n  repeat: {again}"
+        session.checks.true(f"random log, seed {seed}", not faults, text)
+        counts.update(step.answer.word for step in steps)
+        counts.update(f"refused {s.answer.numbers[0]}" for s in steps if s.answer.word == "refused")
+        counts.update(f"kind {s.record.kind}" for s in steps if s.answer.word == "allow")
+        counts["hops"] += sum(len(chain(way)) for s in steps[-1:] for way in s.after.origins.values())
+        if done % PROGRESS == 0:
+            session.say(f"{done} of {session.logs} logs")
+    check_counts(session, counts)
+
+
+def check_counts(session: Session, counts: Counter) -> None:
+    """The logs must contain what the properties speak of."""
+    session.say(", ".join(f"{word} {counts[word]}" for word in (*WORDS, "hops")))
+    if session.logs < 500:
+        session.say("fewer than 500 logs: how often each answer occurs is not checked")
+        return
+    names = [*WORDS, *(f"kind {kind}" for kind in KINDS)]
+    names += [f"refused {number}" for number in range(CUT_SHORT, BROKEN_ALREADY + 1)]
+    for name in names:
+        session.checks.true(f"random logs: {name}", counts[name] >= 20, f"{counts[name]} times")
+    session.checks.true("random logs: hops", counts["hops"] > 2000, str(counts["hops"]))
+
+
+def test_program(session: Session) -> None:
+    """The program beside the model on a handful of logs."""
+    for seed in range(session.seed, session.seed + min(PROGRAM_LOGS, session.logs)):
+        result = logtool("explain", "-", "--brief", "--program", session.runnable, data=make_log(seed))
+        last = result.output.splitlines()[-1:]
+        good = result.status in (0, 1) and "the program answers the same." in "".join(last)
+        session.checks.true(f"the program on the log of seed {seed}", good, str((last, result.message)))

@@ -1,0 +1,91 @@
+"""What the tests of the tools share: paths, counts, progress, and logtool in this process."""
+
+import io
+import sys
+import time
+from importlib.machinery import SourceFileLoader
+from importlib.util import module_from_spec, spec_from_loader
+from pathlib import Path
+from types import ModuleType
+from typing import List, NamedTuple, Optional
+from unittest import mock
+
+ROOT = Path(__file__).resolve().parent.parent.parent
+sys.path[:0] = [str(ROOT / part) for part in ("model", "tools", "tests/logtests")]
+
+from checks import Checks  # noqa: E402
+from logtext import assemble  # noqa: E402
+from names import Own, read_names  # noqa: E402
+from provenance import Step, steps_of  # noqa: E402
+
+LOGS = ROOT / "logs"
+STORIES = ("rowers", "evaluation", "run-b")
+
+
+class Session(NamedTuple):
+    """The counts, and what the command line says."""
+
+    checks: Checks
+    seed: int
+    logs: int
+    began: float
+    program: Optional[str]  # the built program, or None
+    standin: str  # a program that answers as the model
+
+    def say(self, text: str) -> None:
+        """A line with the time since the start."""
+        print(f"[{time.monotonic() - self.began:4.0f} s] {text}", flush=True)
+
+    @property
+    def runnable(self) -> str:
+        """The program to run beside the model."""
+        return self.program or self.standin
+
+
+def story_log(name: str) -> bytes:
+    """The bytes of a log of logs/."""
+    return assemble((LOGS / f"{name}.log.txt").read_bytes())
+
+
+def story_names(name: str) -> Own:
+    """The own names of a log of logs/."""
+    return read_names((LOGS / f"{name}.names.txt").read_bytes())
+
+
+def story_steps(name: str) -> List[Step]:
+    """The steps of a log of logs/."""
+    return list(steps_of(story_log(name)))
+
+
+# The command line.
+
+
+class Result(NamedTuple):
+    """What a command leaves."""
+
+    status: int
+    output: str
+    message: str
+
+
+def load_logtool() -> ModuleType:
+    """The command line as a module."""
+    loader = SourceFileLoader("logtool", str(ROOT / "tools" / "logtool"))
+    module = module_from_spec(spec_from_loader("logtool", loader))
+    loader.exec_module(module)
+    return module
+
+
+LOGTOOL = load_logtool()
+
+
+def logtool(*words: str, data: bytes = b"") -> Result:
+    """Run logtool in this process with standard input."""
+    given, output, errors = io.TextIOWrapper(io.BytesIO(data)), io.BytesIO(), io.StringIO()
+    stdout = io.TextIOWrapper(output, encoding="utf-8", write_through=True)
+    with mock.patch.multiple(sys, stdin=given, stdout=stdout, stderr=errors):
+        try:
+            status = LOGTOOL.main(list(words))
+        except SystemExit as end:
+            status = end.code
+    return Result(status, output.getvalue().decode(), errors.getvalue())
