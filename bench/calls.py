@@ -9,7 +9,7 @@ of target/bin/callrun with the call and one without it.
 from pathlib import Path
 from typing import Dict, List, NamedTuple
 
-from counting import INPUT_BUFFER, BadRun, Report, instructions, say, stack_peak
+from counting import INPUT_BUFFER, BadRun, Report, instructions, peak_of, row, rule_of, say
 from states import KIND_NAMES, ROOT, Case, small_cases, worst_cases
 from limits import UNKNOWN_KIND
 from records import Call
@@ -54,7 +54,7 @@ def by_value(case: Case) -> int:
 
 def stack(program: Path, calls: List[Call]) -> int:
     """The peak of the stack in bytes, less the input buffer."""
-    return stack_peak(program, input_of(calls)) - INPUT_BUFFER
+    return peak_of(program, input_of(calls)).stack - INPUT_BUFFER
 
 
 class Figures(NamedTuple):
@@ -86,13 +86,10 @@ def measured() -> Figures:
 
 def table(figures: Figures) -> List[str]:
     """The figures as the lines of a document."""
-    lines = [
-        "| Kind | Call | Small state | Worst state | Worst state, by value, with its line |",
-        "| ---: | --- | ---: | ---: | ---: |",
-    ]
+    heads = ("Small state", "Worst state", "Worst state, by value, with its line")
+    lines = [row("Kind", "Call", *heads), rule_of("rlrrr")]
     for kind, name in KIND_NAMES.items():
-        counts = [figures.small[kind], figures.worst[kind], figures.whole[kind]]
-        lines.append(" | ".join([f"| {kind}", name, *(f"{count:,}" for count in counts)]) + " |")
+        lines.append(row(kind, name, figures.small[kind], figures.worst[kind], figures.whole[kind]))
     lines += [
         "",
         f"Peak of the stack, less the input buffer of {INPUT_BUFFER:,} bytes: "
@@ -119,4 +116,4 @@ def broken_limits(figures: Figures) -> List[str]:
 def report() -> Report:
     """Measure, and check the limits."""
     figures = measured()
-    return Report(table(figures), broken_limits(figures))
+    return Report({"calls": table(figures)}, broken_limits(figures))

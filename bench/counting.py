@@ -1,15 +1,18 @@
-"""Runs of a program under valgrind: instructions, shares by function, and the stack."""
+"""Runs of a program under valgrind: instructions, shares by function, single records, memory."""
 
+import os
 import re
 import subprocess
 import sys
 import tempfile
+from array import array
 from collections import Counter
 from pathlib import Path
-from typing import List, NamedTuple, Tuple
+from typing import Dict, List, NamedTuple, Sequence, Tuple
 
 INPUT_BUFFER = 65536  # bytes that each measured program reads its input into
 SECONDS = 300  # for one run
+CHUNK = 1 << 22  # bytes of a trace that are read at once
 
 
 class BadRun(Exception):
@@ -17,9 +20,9 @@ class BadRun(Exception):
 
 
 class Report(NamedTuple):
-    """A table as the lines of a document, and the limits that do not hold, in words."""
+    """Parts of a document by name, and the limits that do not hold, in words."""
 
-    lines: List[str]
+    parts: Dict[str, List[str]]
     broken: List[str]
 
 
@@ -28,7 +31,18 @@ def say(text: str) -> None:
     print(text, file=sys.stderr, flush=True)
 
 
-def valgrind(options: List[str], program: Path, data: bytes) -> Tuple[str, List[str]]:
+def row(*cells: object) -> str:
+    """A row of a table."""
+    texts = [f"{cell:,}" if isinstance(cell, int) else str(cell) for cell in cells]
+    return f"| {' | '.join(texts)} |"
+
+
+def rule_of(sides: str) -> str:
+    """The line below the head of a table: l for a column of words, r for one of numbers."""
+    return row(*({"l": "---", "r": "---:"}[side] for side in sides))
+
+
+def valgrind(options: Sequence[str], program: Path, data: bytes) -> Tuple[str, List[str]]:
     """What valgrind says of a run, and the lines that the program writes."""
     if len(data) > INPUT_BUFFER:
         raise BadRun(f"{len(data):,} bytes do not fit the input")
@@ -67,11 +81,75 @@ def instructions_by_function(program: Path, data: bytes) -> Counter:
     return counts
 
 
-def stack_peak(program: Path, data: bytes) -> int:
-    """The peak of the stack in bytes."""
+class Peak(NamedTuple):
+    """The most bytes of the stack and of the heap."""
+
+    stack: int
+    heap: int
+
+
+def peak_of(program: Path, data: bytes) -> Peak:
+    """The peaks of a run."""
     with tempfile.TemporaryDirectory() as room:
         out = Path(room) / "massif"
         options = ["--tool=massif", "--stacks=yes", "--peak-inaccuracy=0.0"]
         valgrind([*options, f"--massif-out-file={out}"], program, data)
-        sizes = [int(size) for size in re.findall(r"mem_stacks_B=(\d+)", out.read_text())]
-    return max(sizes)
+        text = out.read_text()
+    sizes = {
+        sort: max(map(int, re.findall(rf"mem_{sort}_B=(\d+)", text))) for sort in ("stacks", "heap")
+    }
+    return Peak(sizes["stacks"], sizes["heap"])
+
+
+# Single records of a log, from a trace of one run.
+
+
+def executed(program: Path, data: bytes) -> array:
+    """The addresses of the instructions of a run, in order."""
+    addresses = array("Q")
+    pattern = re.compile(rb"^I  ([0-9a-f]+)", re.MULTILINE)
+    source, sink = os.pipe()
+    options = ["--tool=lackey", "--basic-counts=no", "--trace-mem=yes", f"--log-fd={sink}"]
+    with tempfile.TemporaryFile() as given, open(source, "rb") as trace:
+        given.write(data)
+        given.seek(0)
+        run = subprocess.Popen(
+            ["valgrind", *options, str(program)],
+            stdin=given,
+            stdout=subprocess.DEVNULL,
+            pass_fds=[sink],
+        )
+        os.close(sink)
+        rest = b""
+        while piece := trace.read(CHUNK):
+            lines, end, rest = (rest + piece).rpartition(b"\n")
+            addresses.extend([int(number, 16) for number in pattern.findall(lines + end)])
+        if run.wait() != 0:
+            raise BadRun(f"valgrind ended with status {run.returncode} in a trace")
+    return addresses
+
+
+def loop_marks(addresses: array, turns: int) -> List[List[int]]:
+    """For each loop of so many turns, one after the other: where each turn begins.
+
+    An instruction that is executed just so many times belongs to such a loop. Those of one loop
+    overlap in time; the earliest of them marks its turns.
+    """
+    counts = Counter(addresses)
+    places: Dict[int, List[int]] = {pc: [] for pc, count in counts.items() if count == turns}
+    for place, address in enumerate(addresses):
+        if address in places:
+            places[address].append(place)
+    marks: List[List[int]] = []
+    for found in sorted(places.values()):
+        if not marks or found[0] > marks[-1][-1]:
+            marks.append(found)
+    return marks
+
+
+def traced_costs(program: Path, data: bytes, records: int) -> List[int]:
+    """About what each record of a log takes, but the last, over all loops over the records."""
+    marks = loop_marks(executed(program, data), records)
+    if not marks:
+        raise BadRun(f"no loop of {program.name} turns once for each record")
+    return [sum(mark[k + 1] - mark[k] for mark in marks) for k in range(records - 1)]

@@ -5,10 +5,26 @@ calls that lead to the state, and last the record. Only item 0 is ever held
 there, so no rule is broken but where a record is to break one.
 """
 
+import functools
 import sys
 from typing import Dict, List, NamedTuple
 
-from states import FIRST, GIVER, HIDDEN, ROOT, Case, small_cases, worst_cases
+from states import (
+    D_LAST,
+    FILLER,
+    FIRST,
+    FREE,
+    GIVER,
+    HIDDEN,
+    KIND_NAMES,
+    N_LAST,
+    ROOT,
+    Case,
+    small_cases,
+    small_laden_cases,
+    worst_cases,
+    worst_laden_cases,
+)
 
 sys.path.insert(0, str(ROOT / "tests" / "logtests"))
 
@@ -17,18 +33,35 @@ from generate import MIXES  # noqa: E402
 from limits import (  # noqa: E402
     BROKEN_ALREADY,
     CALL_TAG,
+    CLOSE,
     CONTAINERS,
+    CREATE,
     CUT_SHORT,
+    DEAD_PROCESS,
+    DEVICE,
     DEVICES,
     DIVERT_ACTION,
+    EXIT,
     FILES,
+    ITEMS,
     LABEL,
+    MISSING,
+    NO_FILE,
     OUT_OF_RANGE,
     PROCESSES,
+    READ,
     RULE_LIMIT,
+    RULES_FULL,
+    SAME_TWICE,
     START,
+    TAKEN,
+    TRUNCATE,
+    UNKNOWN_KIND,
     UNKNOWN_TAG,
+    UNLINK,
+    UNMAP,
     WRITE,
+    WRONG_LENGTH,
     process_container,
 )
 from randomlogs import LogGenerator  # noqa: E402
@@ -52,7 +85,13 @@ RULE_TABLES = {
 # One fewer, none of them about item 0.
 ALL_BUT_ONE = CONFINING[1:]
 
-CASES = {"small": small_cases(), "worst": worst_cases()}
+CASES: Dict[str, Dict[int, List[Case]]] = {
+    state: {kind: [made[kind] for made in tables if kind in made] for kind in KIND_NAMES}
+    for state, tables in {
+        "small": (small_cases(), small_laden_cases()),
+        "worst": (worst_cases(), worst_laden_cases()),
+    }.items()
+}
 
 
 class LogCase(NamedTuple):
@@ -64,9 +103,13 @@ class LogCase(NamedTuple):
     answer: str
 
 
-def call_case(rules: List[Rule], case: Case) -> LogCase:
-    """A call that is allowed."""
-    return LogCase(rules, case.before, encode(case.call), "allow")
+def call_cases(rules: List[Rule], state: str, kind: int) -> List[LogCase]:
+    """A kind of call that is allowed, at the places where it may cost most."""
+    cases = CASES[state][kind]
+    return [LogCase(rules, case.before, encode(case.call), "allow") for case in cases]
+
+
+# Writes that a rule stops, rules, and refusals.
 
 
 class Place(NamedTuple):
@@ -76,20 +119,61 @@ class Place(NamedTuple):
     write: Call
     written: int
     substitute: int
+    # a live process with a descriptor and a name that are free after some calls, and one that dies
+    process: int
+    descriptor: int
+    name: int
+    freeing: List[Call]
+    dying: List[Call]
+    dead: int
+    used: int  # a file in use
 
 
-def place_of(case: Case, written: int, substitute: int) -> Place:
-    """The state of a measured write, with the item."""
+def small_place() -> Place:
+    """The small state: the write goes to a file, or else to a device."""
+    case = small_laden_cases()[WRITE]
+    file, device = FILES[0], DEVICES[3]
+    return Place(case.before, case.call, file, device, 0, 1, 1, [], [], PROCESSES[-1], file)
+
+
+def worst_place(case: Case) -> Place:
+    """The worst state: the search from the substitute takes as long as that from the file."""
     label = Call(LABEL, 0, process_container(case.call.process), 0)
-    return Place([*case.before, label], case.call, written, substitute)
+    freeing = [Call(CLOSE, GIVER, D_LAST), Call(UNLINK, GIVER, N_LAST)]
+    dead = PROCESSES[5]
+    return Place(
+        [*case.before, label],
+        case.call,
+        FIRST,
+        HIDDEN,
+        GIVER,
+        D_LAST,
+        N_LAST,
+        freeing,
+        [Call(EXIT, dead)],
+        dead,
+        FILLER,
+    )
 
 
-# In the worst state the reach of the substitute is searched as long as that of the written file.
-PLACES = {
-    "small": place_of(CASES["small"][WRITE], FILES[0], DEVICES[3]),
-    "worst": place_of(CASES["worst"][WRITE], FIRST, HIDDEN),
+PLACES: Dict[str, List[Place]] = {
+    "small": [small_place()],
+    "worst": [worst_place(case) for case in CASES["worst"][WRITE]],
 }
-assert PLACES["worst"].write.process == GIVER
+INHIBITED = f"write, inhibited by rule {LAST_RULE}"
+DIVERTED = f"write, diverted by rule {LAST_RULE}"
+
+
+def stopped_cases(place: Place) -> Dict[str, LogCase]:
+    """The write, with the last of 32 rules against it."""
+    inhibiting = deny(0, [place.written])
+    diverting = deny(0, [place.written], DIVERT_ACTION, place.substitute)
+    write = encode(place.write)
+    diverted = f"modify {LAST_RULE} {place.substitute}"
+    return {
+        INHIBITED: LogCase([*ALL_BUT_ONE, inhibiting], place.before, write, f"inhibit {LAST_RULE}"),
+        DIVERTED: LogCase([*ALL_BUT_ONE, diverting], place.before, write, diverted),
+    }
 
 
 def write_case(place: Place) -> LogCase:
@@ -97,56 +181,57 @@ def write_case(place: Place) -> LogCase:
     return LogCase([], place.before, encode(place.write), "allow")
 
 
-def inhibited_case(place: Place) -> LogCase:
-    """The last of 32 rules inhibits the write."""
-    rule = deny(0, [place.written])
-    answer = f"inhibit {LAST_RULE}"
-    return LogCase([*ALL_BUT_ONE, rule], place.before, encode(place.write), answer)
+def rule_cases(place: Place) -> Dict[str, LogCase]:
+    """Rules that are loaded, and those that are refused for what is held."""
+    rule, wide = encode(CONFINING[0]), encode(deny(ITEMS[-1], CONTAINERS))
+    broken = encode(deny(0, [process_container(place.write.process)]))
+    last = f"rule {LAST_RULE}"
+    return {
+        "rule, loaded as number 0": LogCase([], place.before, rule, "rule 0"),
+        f"rule, loaded as number {LAST_RULE}": LogCase(ALL_BUT_ONE, place.before, rule, last),
+        "rule against all containers": LogCase(ALL_BUT_ONE, place.before, wide, last),
+        "rule, 32 are held": refusing(CONFINING, place.before, rule, RULES_FULL),
+        "rule, broken already": refusing(ALL_BUT_ONE, place.before, broken, BROKEN_ALREADY),
+    }
 
 
-def diverted_case(place: Place) -> LogCase:
-    """The last of 32 rules diverts the write."""
-    rule = deny(0, [place.written], DIVERT_ACTION, place.substitute)
-    answer = f"modify {LAST_RULE} {place.substitute}"
-    return LogCase([*ALL_BUT_ONE, rule], place.before, encode(place.write), answer)
+def refusing(rules: List[Rule], before: List[Call], record: bytes, number: int) -> LogCase:
+    """A record that is refused."""
+    return LogCase(rules, before, record, f"refused {number}")
 
 
-INHIBITED = f"write, inhibited by rule {LAST_RULE}"
-DIVERTED = f"write, diverted by rule {LAST_RULE}"
+def refused_cases(place: Place) -> Dict[str, LogCase]:
+    """A record for each of the other refusals, with 32 rules held."""
+    process, descriptor, free = place.process, place.descriptor, place.freeing
+    create = Call(CREATE, process, place.name, descriptor, place.used)
+    device = [*free, Call(DEVICE, process, descriptor, DEVICES[0])]
+    listed = [
+        ("header cut short", [], bytes([CALL_TAG, 0]), CUT_SHORT),
+        ("unknown tag", [], frame_bytes(0, b""), UNKNOWN_TAG),
+        ("wrong length", [], frame_bytes(CALL_TAG, b""), WRONG_LENGTH),
+        ("unknown kind", [], encode(Call(0)), UNKNOWN_KIND),
+        ("call out of range", [], encode(Call(START, PROCESSES.stop)), OUT_OF_RANGE),
+        ("read of a dead process", place.dying, encode(Call(READ, place.dead)), DEAD_PROCESS),
+        ("create, file in use", free, encode(create), TAKEN),
+        ("unmap, no link", [], encode(Call(UNMAP, process, FREE)), MISSING),
+        ("rule, items equal", [], encode(combination(1, 1)), SAME_TWICE),
+        ("truncate of a device", device, encode(Call(TRUNCATE, process, descriptor)), NO_FILE),
+    ]
+    return {
+        name: refusing(CONFINING, [*place.before, *calls], record, number)
+        for name, calls, record, number in listed
+    }
 
 
 def other_cases(place: Place) -> Dict[str, LogCase]:
     """Records that are not allowed calls."""
-    rule = encode(CONFINING[0])
-    broken = encode(deny(0, [process_container(place.write.process)]))
-    start = encode(Call(START, PROCESSES.stop))
-    before = place.before
-    return {
-        INHIBITED: inhibited_case(place),
-        DIVERTED: diverted_case(place),
-        "rule, loaded as number 0": LogCase([], before, rule, "rule 0"),
-        f"rule, loaded as number {LAST_RULE}": LogCase(
-            ALL_BUT_ONE, before, rule, f"rule {LAST_RULE}"
-        ),
-        f"refused {CUT_SHORT}, the header cut short": LogCase(
-            CONFINING, before, bytes([CALL_TAG, 0]), f"refused {CUT_SHORT}"
-        ),
-        f"refused {UNKNOWN_TAG}, an unknown tag": LogCase(
-            CONFINING, before, frame_bytes(0, b""), f"refused {UNKNOWN_TAG}"
-        ),
-        f"refused {OUT_OF_RANGE}, a call out of range": LogCase(
-            CONFINING, before, start, f"refused {OUT_OF_RANGE}"
-        ),
-        f"refused {BROKEN_ALREADY}, a rule broken already": LogCase(
-            ALL_BUT_ONE, before, broken, f"refused {BROKEN_ALREADY}"
-        ),
-    }
+    return {**stopped_cases(place), **rule_cases(place), **refused_cases(place)}
 
 
 # Random logs. They differ between the tables, since each follows the state that it leads to.
 SEEDS = (1, 2)
 RECORDS = 2000
-TABLE_SIZES = (0, 8, RULE_LIMIT)
+TABLE_SIZES = (0, 4, 8, 16, RULE_LIMIT)
 MIX_NAMES = list(MIXES)
 
 
@@ -164,6 +249,17 @@ class MixedLog(NamedTuple):
 
 def mixed_log(seed: int, mix: str, rules: int) -> MixedLog:
     """The log of a seed: so many rules first, no more later, and 2,000 records in all."""
-    generator = LogGenerator(seed, mix, rules, rules)
-    data = b"".join(generator.record() for _ in range(RECORDS))
+    return growing_log(seed, mix, rules, RECORDS, RECORDS)
+
+
+def growing_log(seed: int, mix: str, rules: int, records: int, first: int) -> MixedLog:
+    """The first records of a log of so many records."""
+    data = b"".join(random_records(seed, mix, rules, records)[:first])
     return MixedLog(data, model_lines(data))
+
+
+@functools.lru_cache(maxsize=1)
+def random_records(seed: int, mix: str, rules: int, records: int) -> List[bytes]:
+    """The records of a random log."""
+    generator = LogGenerator(seed, mix, rules, rules)
+    return [generator.record() for _ in range(records)]

@@ -37,6 +37,7 @@ from limits import (  # noqa: E402
     UNLINK,
     UNMAP,
     WRITE,
+    process_container,
 )
 from records import Call  # noqa: E402
 
@@ -98,6 +99,22 @@ def small_cases() -> Dict[int, Case]:
     ]
     before = {UNMAP: mapped, LABEL: labelled}
     return {call.kind: Case(before.get(call.kind, base), call) for call in calls}
+
+
+def small_laden_cases() -> Dict[int, Case]:
+    """The same state for calls that move items, with item 0 where the call brings it elsewhere."""
+    base = [Call(START, 0), Call(CREATE, 0, 0, 0, 24)]
+    filled = [*base, Call(LABEL, 0, 24, 0)]
+    holding = [*base, Call(LABEL, 0, process_container(0), 0)]
+    cases = [
+        Case(filled, Call(READ, 0, 0)),
+        Case(holding, Call(WRITE, 0, 0)),
+        Case(filled, Call(MAP_READ, 0, 0)),
+        Case(holding, Call(MAP_BOTH, 0, 0)),
+        Case(holding, Call(FORK, 0, 1)),
+        Case(base, Call(LABEL, 0, 24, 0)),
+    ]
+    return {case.call.kind: case for case in cases}
 
 
 # The worst state. FIRST is a file that feeds process 15 alone, and so is HIDDEN, which has no name and no descriptor.
@@ -212,5 +229,35 @@ def worst_cases() -> Dict[int, Case]:
         Case(one_dead, Call(FORK, GIVER, 0)),
         Case(many_owned, Call(EXIT, GIVER)),
         Case(full + [label], label),
+    ]
+    return {case.call.kind: case for case in cases}
+
+
+def worst_laden_cases() -> Dict[int, Case]:
+    """The same state for calls that move items, with item 0 where the call brings it to most containers.
+
+    Process 0 stands apart from the chain where it writes. The file FREE stands apart where it is read.
+    """
+    full = worst_state(PROCESSES, spread=True)
+    one_dead = worst_state(PROCESSES[1:], spread=True)
+    first, last = PROCESSES[0], PROCESSES[1]
+    apart = [Call(START, first), Call(OPEN, first, N_FIRST, D_FIRST)]
+    holding = [*one_dead, *apart, Call(LABEL, 0, process_container(first), 0)]
+    filled = [
+        *full,
+        Call(CLOSE, GIVER, D_LAST),
+        Call(UNLINK, GIVER, N_LAST),
+        Call(CREATE, GIVER, N_LAST, D_LAST, FREE),
+        Call(LABEL, 0, FREE, 0),
+    ]
+    inherited = [*one_dead, Call(LABEL, 0, process_container(last), 0)]
+    cases = [
+        Case(filled, Call(READ, GIVER, D_LAST)),
+        Case(holding, Call(WRITE, first, D_FIRST)),
+        Case(filled, Call(MAP_READ, GIVER, D_LAST)),
+        Case(holding, Call(MAP_BOTH, first, D_FIRST)),
+        Case(inherited, Call(FORK, last, first)),
+        Case(full, Call(EXIT, first)),
+        Case(full, Call(LABEL, 0, HIDDEN, 0)),
     ]
     return {case.call.kind: case for case in cases}

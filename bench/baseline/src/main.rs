@@ -13,8 +13,10 @@ mod sets;
 mod state;
 
 use std::env;
+use std::fs::File;
 use std::io::{self, Read, Write};
 use std::mem;
+use std::os::fd::AsFd;
 use std::process::ExitCode;
 
 use decision::{Answer, Monitor};
@@ -68,17 +70,21 @@ fn answer_log(log: &[u8], output: &mut impl Write) -> io::Result<()> {
     output.write_all(&lines)
 }
 
+/// A standard stream without the library's own buffer.
+fn unbuffered(stream: impl AsFd) -> io::Result<File> {
+    Ok(File::from(stream.as_fd().try_clone_to_owned()?))
+}
+
 /// Reads standard input and writes the answers.
 fn run() -> io::Result<()> {
     let mut log = Vec::with_capacity(LOG_LIMIT + 1);
-    io::stdin().lock().take(LOG_LIMIT as u64 + 1).read_to_end(&mut log)?;
-    let mut output = io::stdout().lock();
+    unbuffered(io::stdin())?.take(LOG_LIMIT as u64 + 1).read_to_end(&mut log)?;
+    let mut output = unbuffered(io::stdout())?;
     if log.len() > LOG_LIMIT {
-        output.write_all(b"log too long\n")?;
+        output.write_all(b"log too long\n")
     } else {
-        answer_log(&log, &mut output)?;
+        answer_log(&log, &mut output)
     }
-    output.flush()
 }
 
 fn main() -> ExitCode {

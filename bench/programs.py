@@ -1,0 +1,101 @@
+"""The two log programs that are measured side by side, and what a record costs in each."""
+
+import functools
+import subprocess
+from pathlib import Path
+from typing import Callable, List, NamedTuple, Sequence, Tuple
+
+from counting import BadRun, instructions
+from logcases import LogCase
+from states import ROOT
+from records import encode, frame_bytes
+
+BUILD = ROOT / "bench" / "baseline" / "build"
+BUILD_SECONDS = 120
+
+
+class Program(NamedTuple):
+    """A log program."""
+
+    name: str
+    path: Path
+
+
+PROVED = Program("program", ROOT / "target" / "bin" / "runlog")
+BASELINE = Program("baseline", ROOT / "bench" / "baseline" / "target" / "baseline")
+
+# A record of unknown tag: it gets a line and changes nothing. The random logs begin with it, and so
+# does the log that is taken off.
+IDLE = frame_bytes(0, b"")
+IDLE_ANSWER = "refused 2"
+
+
+class Pair(NamedTuple):
+    """A figure of the proved program beside that of the baseline."""
+
+    proved: int
+    baseline: int
+
+    @property
+    def cells(self) -> Tuple[int, int, str]:
+        """Both, and how many times the baseline's the program's is."""
+        return self.proved, self.baseline, f"{self.proved / self.baseline:.1f}"
+
+
+def both(measure: Callable[[Program], int]) -> Pair:
+    """Measure the two."""
+    return Pair(measure(PROVED), measure(BASELINE))
+
+
+def most(pairs: Sequence[Pair]) -> Pair:
+    """The most of each."""
+    return Pair(max(pair.proved for pair in pairs), max(pair.baseline for pair in pairs))
+
+
+def build_baseline() -> None:
+    """Build the baseline; it takes some seconds."""
+    run = subprocess.run([str(BUILD)], capture_output=True, text=True, timeout=BUILD_SECONDS)
+    if run.returncode != 0:
+        raise BadRun(f"bench/baseline/build ended with status {run.returncode}: {run.stderr}")
+
+
+@functools.lru_cache(maxsize=None)
+def counted(program: Program, log: bytes) -> Tuple[int, List[str]]:
+    """The instructions of a run and the lines written; each log is run once."""
+    count, lines = instructions(program.path, log)
+    return count, lines[:-1]
+
+
+def log_before(case: LogCase) -> bytes:
+    """The log without the measured record."""
+    return b"".join(map(encode, [*case.rules, *case.before]))
+
+
+def lines_before(case: LogCase) -> List[str]:
+    """What the records before the measured one must get."""
+    return [f"rule {number}" for number in range(len(case.rules))] + len(case.before) * ["allow"]
+
+
+def record_cost(program: Program, case: LogCase) -> int:
+    """The instructions of a record, its turns of the loops and its line included."""
+    log, wanted = log_before(case), lines_before(case)
+    without, before = counted(program, log)
+    with_record, lines = counted(program, log + case.record)
+    if before != wanted or lines != [*wanted, case.answer]:
+        said = f"the record {case.record.hex()} or one before it gets another answer"
+        raise BadRun(f"{said} from the {program.name}: {lines[-1:]}, not {case.answer}")
+    return with_record - without
+
+
+def costs(cases: Sequence[LogCase]) -> Pair:
+    """A record in both programs: in each the case that costs most."""
+    return most([both(lambda program, case=case: record_cost(program, case)) for case in cases])
+
+
+def log_cost(program: Program, log: bytes, answers: List[str]) -> int:
+    """The instructions of a log, without the start of the program and an idle record."""
+    start, _ = counted(program, IDLE)
+    count, lines = instructions(program.path, IDLE + log)
+    if lines[:-1] != [IDLE_ANSWER, *answers]:
+        raise BadRun(f"the {program.name} differs from the model on a random log")
+    return count - start
