@@ -26,6 +26,7 @@ GAP = 5  # between two tokens
 CHIP_WIDTH = 24
 MARKED_WIDTH = 32
 CHIP_HEIGHT = 16
+LEAST_CONTRAST = 7.5  # of a chip with black
 
 # Marks: what the last record did to a thing, or would have done.
 NEW = "new"
@@ -136,19 +137,30 @@ def never_section(view: View, container: int) -> Tuple[Token, ...]:
     return (Token("forbidden:", style="n"), *(chip(item, "", NEVER) for item in items)) if items else ()
 
 
-def name_section(view: View, words: Words, container: int) -> Tuple[Token, ...]:
-    """The names that lead to the container, or did before the last record."""
-    moves = view.changes.names
+def name_marks(view: View, container: int) -> Dict[int, str]:
+    """The names that lead to the container, or did before the last record, with their marks."""
     marks = {name: "" for name, target in view.moment.state.names.items() if target == container}
-    for name, (before, after) in moves.items():
+    for name, (before, after) in view.changes.names.items():
         if container in (before, after):
             marks[name] = NEW if after == container else GONE
-    room = WIDTH - 2 * PAD
-    tokens = []
-    for name in sorted(marks):
+    return marks
+
+
+def name_section(view: View, words: Words, container: int) -> Tuple[Token, ...]:
+    """The names of a container: runs of those without an own name, and the others one by one."""
+    marks = name_marks(view, container)
+    runs: List[Tuple[int, Token]] = []
+    for mark in ("", NEW, GONE):
+        plain = [n for n in marks if marks[n] == mark and not words.own_name("name", n)]
+        for run in set_text(plain).split(",") if plain else ():
+            runs.append((int(run.split("-")[0]), Token(run, mark)))
+    for name in marks:
         own = words.own_name("name", name)
-        tokens.append(Token(clipped(f"name {name}" + (f" {own}" if own else ""), room), marks[name]))
-    return tuple(tokens)
+        if own:
+            text = clipped(f"{name} {own}", WIDTH - 2 * PAD)
+            runs.append((name, Token(text, marks[name])))
+    label = Token("names" if len(marks) > 1 else "name", style="n")
+    return (label, *(token for _, token in sorted(runs))) if runs else ()
 
 
 def descriptor_section(view: View, container: int) -> Tuple[Token, ...]:
@@ -203,12 +215,19 @@ def path(*parts: object) -> str:
     return " ".join(number(p) if isinstance(p, (int, float)) else str(p) for p in parts)
 
 
+def contrast(red: float, green: float, blue: float) -> float:
+    """The contrast of a colour with black, from 1 to 21."""
+    parts = [c / 12.92 if c <= 0.04045 else ((c + 0.055) / 1.055) ** 2.4 for c in (red, green, blue)]
+    return 20 * (0.2126 * parts[0] + 0.7152 * parts[1] + 0.0722 * parts[2]) + 1
+
+
 def item_colour(item: int) -> str:
-    """The colour of an item's chip: light, so that dark digits can be read on it."""
+    """The colour of an item's chip, light enough for dark digits."""
     hue = item * 0.381966 % 1
-    lightness = (0.70, 0.80, 0.62)[item // 8 % 3]
-    red, green, blue = colorsys.hls_to_rgb(hue, lightness, 0.75)
-    return f"#{int(red * 255):02x}{int(green * 255):02x}{int(blue * 255):02x}"
+    lightness = (0.62, 0.72, 0.80)[item // 8 % 3]
+    while contrast(*colorsys.hls_to_rgb(hue, lightness, 0.75)) < LEAST_CONTRAST:
+        lightness += 0.01
+    return "#" + "".join(f"{int(part * 255):02x}" for part in colorsys.hls_to_rgb(hue, lightness, 0.75))
 
 
 COLOURS = [item_colour(item) for item in ITEMS]

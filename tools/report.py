@@ -119,9 +119,8 @@ def way_report(moment: Moment, number: int, own: Own, place: List[int], width: i
     return lines
 
 
-def counts_text(steps: List[Step], checked: bool) -> str:
-    """How many records got which answer, and whether the program was asked too."""
+def counts_text(steps: List[Step]) -> str:
+    """How many records got which answer."""
     counts = Counter(step.answer.word for step in steps)
     listed = ", ".join(f"{counts[word]} {word}" for word in ANSWERS if counts[word]) or "no answers"
-    asked = "the program answers the same" if checked else "the program was not run"
-    return f"{len(steps)} records: {listed}; {asked}."
+    return f"{len(steps)} records: {listed}"
