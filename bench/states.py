@@ -190,11 +190,18 @@ def own_pipe(file: int, kept: int, other: int) -> List[Call]:
     ]
 
 
+def many_owned() -> List[Call]:
+    """A state in which one process has the only descriptor of many pipes."""
+    calls = worst_state(PROCESSES, spread=False)
+    for number, file in enumerate(range(FILLER + 1, FREE + 1)):
+        calls += own_pipe(file, D_WORK + 1 + number, D_LAST)
+    return calls
+
+
 def worst_cases() -> Dict[int, Case]:
     """The worst state, less what the call needs free, and the call at its worst place."""
     full = worst_state(PROCESSES, spread=True)
     one_dead = worst_state(PROCESSES[1:], spread=True)
-    apart = worst_state(PROCESSES, spread=False)
     freed = [Call(CLOSE, GIVER, D_LAST)]
     unbound = [Call(UNLINK, GIVER, N_LAST)]
     # FREE has no use but the name N_LAST
@@ -205,9 +212,6 @@ def worst_cases() -> Dict[int, Case]:
         Call(CLOSE, GIVER, D_LAST),
         Call(OPEN, GIVER, N_FILLER, D_LAST),
     ]
-    many_owned = list(apart)
-    for number, file in enumerate(range(FILLER + 1, FREE + 1)):
-        many_owned += own_pipe(file, D_WORK + 1 + number, D_LAST)
     label = Call(LABEL, 0, HIDDEN, 0)
     cases = [
         Case(one_dead, Call(START, 0)),
@@ -227,7 +231,7 @@ def worst_cases() -> Dict[int, Case]:
         Case(full + named_only, Call(RENAME, GIVER, N_OTHER, N_LAST)),
         Case(full + unbound, Call(LINK, GIVER, N_FILLER, N_LAST)),
         Case(one_dead, Call(FORK, GIVER, 0)),
-        Case(many_owned, Call(EXIT, GIVER)),
+        Case(many_owned(), Call(EXIT, GIVER)),
         Case(full + [label], label),
     ]
     return {case.call.kind: case for case in cases}

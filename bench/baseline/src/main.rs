@@ -16,7 +16,7 @@ use std::env;
 use std::fs::File;
 use std::io::{self, Read, Write};
 use std::mem;
-use std::os::fd::AsFd;
+use std::os::unix::io::AsFd;
 use std::process::ExitCode;
 
 use decision::{Answer, Monitor};
