@@ -14,7 +14,9 @@ use Rattle.flow.specs.Records.{recordsIn, recordsOf}
 use Rattle.flow.specs.Verdicts.{Answer as Word, outcome, answer, next, Answered as LogAnswered, answerAll, runLog}
 use Rattle.flow.specs.Queries.{result}
 use Rattle.records.specs.Reading.{extentOf}
-use Rattle.records.proofs.RecordLaws.{tail-extent, tail-fits, extent-positive, records-first, log-empty, log-first}
+use Rattle.records.proofs.RecordLaws.{extent-positive, extent-le, records-first, log-empty, log-first}
+use Rattle.logreader.specs.Log.{endAfter}
+use Rattle.logreader.proofs.PlaceLaws.{end-after-record}
 use Rattle.tracker.specs.Replies.{replyOf}
 use Rattle.tracker.specs.declared.queries.Reply.the-variants.{Result, Refused}
 use Rattle.decision.specs.declared.Monitor.{Monitor}
@@ -28,9 +30,6 @@ use Rattle.decision.specs.Logs.{codeOf, codesOf, roomFor, RunsBy, Runs}
 abbrev part : ℕ → ℕ → List ℕ → List ℕ
 part f t l = take (t - f) (drop f l)
 
-pub record-part : (at e : ℕ) (log : List ℕ) → part at (at + e) log ≡ take e (drop at log)
-record-part at e log = ap (λ (n : ℕ). take n (drop at log)) (let z : at + e - at ≡ e = omega arith in z)
-
 -- ---- counting
 -- n records stand before the place at
 pub record Counted (log : List ℕ) (at n : ℕ) : Type 0 where
@@ -41,36 +40,43 @@ pub record Counted (log : List ℕ) (at n : ℕ) : Type 0 where
 pub count-start : (log : List ℕ) → Counted log 0 0
 count-start log = record { within = omega arith; fewer = omega arith; counted = let z : length (recordsOf log) ≡ 0 + length (recordsOf log) = omega arith in z }
 
-module _ {log : List ℕ} {at n : ℕ} (w : Counted log at n) (l : at < length log) (e : ℕ) (h : e ≡ extentOf (part at (length log) log)) where
-  extent-is : e ≡ extentOf (drop at log)
-  extent-is = tail-extent log at e h
+module _ {log : List ℕ} {at n : ℕ} (w : Counted log at n) (l : at < length log) (end : ℕ) (h : end ≡ endAfter log at) where
+  end-is : end ≡ at + extentOf (drop at log)
+  end-is = h ∙ end-after-record log at l
 
   left : 0 < length (drop at log)
   left = let d : length (drop at log) ≡ length log - at = length-drop at log in omega arith
 
-  pub extent-some : 1 ≤ e
-  extent-some = let z : 1 ≤ extentOf (drop at log) = extent-positive (drop at log) left in let y : e ≡ extentOf (drop at log) = extent-is in omega arith
+  pub end-past : at < end
+  end-past = let z : 1 ≤ extentOf (drop at log) = extent-positive (drop at log) left in let y : end ≡ at + extentOf (drop at log) = end-is in omega arith
 
-  pub extent-fits : at + e ≤ length log
-  extent-fits = tail-fits log at e h (w .within)
+  pub end-within : end ≤ length log
+  end-within =
+      let z : extentOf (drop at log) ≤ length (drop at log) = extent-le (drop at log) in
+      let d : length (drop at log) ≡ length log - at = length-drop at log in
+      let y : end ≡ at + extentOf (drop at log) = end-is in
+      omega arith
 
-  rest-is : drop (extentOf (drop at log)) (drop at log) ≡ drop (at + e) log
-  rest-is = drop-drop (extentOf (drop at log)) at log ∙ ap (λ (x : ℕ). drop (at + x) log) (sym extent-is)
+  first-is : part at end log ≡ take (extentOf (drop at log)) (drop at log)
+  first-is = ap (λ (n : ℕ). take n (drop at log)) (let y : end ≡ at + extentOf (drop at log) = end-is in let z : end - at ≡ extentOf (drop at log) = omega arith in z)
 
-  one-less : length (recordsOf (drop at log)) ≡ suc (length (recordsOf (drop (at + e) log)))
+  rest-is : drop (extentOf (drop at log)) (drop at log) ≡ drop end log
+  rest-is = drop-drop (extentOf (drop at log)) at log ∙ ap (λ (x : ℕ). drop x log) (sym end-is)
+
+  one-less : length (recordsOf (drop at log)) ≡ suc (length (recordsOf (drop end log)))
   one-less = ap length (records-first (drop at log) left) ∙ ap (λ (x : List ℕ). suc (length (recordsOf x))) rest-is
 
-  pub count-more : Counted log (at + e) (n + 1)
+  pub count-more : Counted log end (n + 1)
   count-more =
       record {
-        within = extent-fits;
-        fewer = let z : 1 ≤ e = extent-some in let y : n ≤ at = w .fewer in omega arith;
-        counted = let z : length (recordsOf (drop at log)) ≡ suc (length (recordsOf (drop (at + e) log))) = one-less in let y : length (recordsOf log) ≡ n + length (recordsOf (drop at log)) = w .counted in omega arith;
+        within = end-within;
+        fewer = let z : at < end = end-past in let y : n ≤ at = w .fewer in omega arith;
+        counted = let z : length (recordsOf (drop at log)) ≡ suc (length (recordsOf (drop end log))) = one-less in let y : length (recordsOf log) ≡ n + length (recordsOf (drop at log)) = w .counted in omega arith;
       }
 
   -- so far there are fewer records than in the whole log
   pub count-lt : n < length (recordsOf log)
-  count-lt = let z : length (recordsOf (drop at log)) ≡ suc (length (recordsOf (drop (at + e) log))) = one-less in let y : length (recordsOf log) ≡ n + length (recordsOf (drop at log)) = w .counted in omega arith
+  count-lt = let z : length (recordsOf (drop at log)) ≡ suc (length (recordsOf (drop end log))) = one-less in let y : length (recordsOf log) ≡ n + length (recordsOf (drop at log)) = w .counted in omega arith
 
 pub no-records : length (recordsOf []) ≡ 0
 unfolding recordsOf recordsIn
@@ -110,41 +116,38 @@ pub record Running (m₀ : Monitor) (log codes₀ : List ℕ) (m : Monitor) (at 
 pub run-start : (m : Monitor) (log codes : List ℕ) → length (recordsOf log) ≤ length codes → Running m log codes m 0 0 codes
 run-start m log codes h = record { counted = count-start log; room = h; long = refl; state = refl; stored = refl; rest = refl }
 
-module _ {m₀ : Monitor} {log codes₀ : List ℕ} {m : Monitor} {at n : ℕ} {codes : List ℕ} (w : Running m₀ log codes₀ m at n codes) (l : at < length log) (e : ℕ) (h : e ≡ extentOf (part at (length log) log)) where
+module _ {m₀ : Monitor} {log codes₀ : List ℕ} {m : Monitor} {at n : ℕ} {codes : List ℕ} (w : Running m₀ log codes₀ m at n codes) (l : at < length log) (end : ℕ) (h : end ≡ endAfter log at) where
   -- there is room for one more
   pub run-room : n < length codes
   run-room =
-      let z : n < length (recordsOf log) = count-lt (w .counted) l e h in
+      let z : n < length (recordsOf log) = count-lt (w .counted) l end h in
       let y : length (recordsOf log) ≤ length codes₀ = w .room in
       let x : length codes ≡ length codes₀ = w .long in
       omega arith
 
-  module _ (r : Answered) (g : Answers m (outcome (view m) (part at (at + e) log)) r) (x : ℕ) (f : x ≡ codeOf (wordOf (r .answer))) where
-    first-is : part at (at + e) log ≡ take (extentOf (drop at log)) (drop at log)
-    first-is = record-part at e log ∙ ap (λ (k : ℕ). take k (drop at log)) (extent-is (w .counted) l e h)
-
+  module _ (r : Answered) (g : Answers m (outcome (view m) (part at end log)) r) (x : ℕ) (f : x ≡ codeOf (wordOf (r .answer))) where
     -- the answers and the state from here on
-    onward : runLog (view m) (drop at log) ≡ record { answers = answer (view m) (part at (at + e) log) ∷ runLog (view (r .monitor)) (drop (at + e) log) .answers; state = runLog (view (r .monitor)) (drop (at + e) log) .state }
+    onward : runLog (view m) (drop at log) ≡ record { answers = answer (view m) (part at end log) ∷ runLog (view (r .monitor)) (drop end log) .answers; state = runLog (view (r .monitor)) (drop end log) .state }
     unfolding next
     onward =
-        log-first (view m) (drop at log) (left (w .counted) l e h)
-        ∙ ap₂ {C = LogAnswered} (λ (y : List ℕ) (t : LogAnswered). record { answers = answer (view m) y ∷ t .answers; state = t .state }) (sym first-is)
-        (ap₂ runLog (ap (λ (y : List ℕ). next (view m) y) (sym first-is) ∙ sym (g .state)) (rest-is (w .counted) l e h))
+        log-first (view m) (drop at log) (left (w .counted) l end h)
+        ∙ ap₂ {C = LogAnswered} (λ (y : List ℕ) (t : LogAnswered). record { answers = answer (view m) y ∷ t .answers; state = t .state }) (sym (first-is (w .counted) l end h))
+        (ap₂ runLog (ap (λ (y : List ℕ). next (view m) y) (sym (first-is (w .counted) l end h)) ∙ sym (g .state)) (rest-is (w .counted) l end h))
 
-    pub run-more : Running m₀ log codes₀ (r .monitor) (at + e) (n + 1) (set codes n x)
+    pub run-more : Running m₀ log codes₀ (r .monitor) end (n + 1) (set codes n x)
     unfolding codesOf answer
     run-more =
         record {
-          counted = count-more (w .counted) l e h;
+          counted = count-more (w .counted) l end h;
           room = w .room;
           long = length-set codes n x ∙ w .long;
           state = w .state ∙ ap (λ (t : LogAnswered). t .state) onward;
           stored =
               w .stored
               ∙ ap (λ (t : LogAnswered). take n codes ++ codesOf (t .answers)) onward
-              ∙ ap (λ (k : ℕ). take n codes ++ k ∷ codesOf (runLog (view (r .monitor)) (drop (at + e) log) .answers)) (ap codeOf (sym (g .answer)) ∙ sym f)
+              ∙ ap (λ (k : ℕ). take n codes ++ k ∷ codesOf (runLog (view (r .monitor)) (drop end log) .answers)) (ap codeOf (sym (g .answer)) ∙ sym f)
               ∙ sym (append-snoc (take n codes) x _)
-              ∙ ap (λ (y : List ℕ). y ++ codesOf (runLog (view (r .monitor)) (drop (at + e) log) .answers)) (sym (take-suc-set codes n x run-room) ∙ ap (λ (k : ℕ). take k (set codes n x)) (sym (add-one n)));
+              ∙ ap (λ (y : List ℕ). y ++ codesOf (runLog (view (r .monitor)) (drop end log) .answers)) (sym (take-suc-set codes n x run-room) ∙ ap (λ (k : ℕ). take k (set codes n x)) (sym (add-one n)));
           rest =
               drop-set-lt (n + 1) codes n x (omega arith)
               ∙ sym (drop-drop 1 n codes) ∙ ap (drop 1) (w .rest) ∙ drop-drop 1 n codes₀;

@@ -22,13 +22,16 @@ use Rattle.flow.proofs.Consequences.{kinds-numbered}
 use Rattle.records.specs.Reading.{aCall, outcomeOfCall, outcomeOf}
 use Rattle.tracker.specs.declared.Tracker.{Tracker}
 use Rattle.tracker.specs.View.{view as trackerView}
-use Rattle.tracker.specs.Worked.{stateBy, worked}
-use Rattle.tracker.proofs.Views.{view-rules}
+use Rattle.tracker.specs.Worked.{stateBy, worked, Works}
+use Rattle.tracker.proofs.Tests.{state-kept, state-done}
+use Rattle.tracker.proofs.Views.{view-rules, view-same}
 use Rattle.decision.specs.declared.Monitor.{Monitor}
+use Rattle.decision.specs.declared.Answer.the-variants.{Allow}
 use Rattle.decision.specs.declared.Answered.{Answered}
 use Rattle.decision.specs.Judging.{conditionAt, ruleFrom, firstFrom, countOf}
 use Rattle.decision.specs.View.{ruleAt, ruleOf, rulesOf, view}
 use Rattle.decision.specs.Answers.{Answers, Asked, WorkedOut}
+use Rattle.decision.proofs.AnswerLaws.{with-tracker, allowed-as}
 use Rattle.decision.proofs.JudgingLaws.{count-le, first-le, found, found-none, found-some, lowest-found}
 
 -- ---- the lowest broken rule of a tracker's state, by the search
@@ -68,6 +71,18 @@ stopped-by m t k kind p q w e n c z r f =
   where
     below : (k n : ℕ) → k ≤ 0 + n → n ≤ 32 → (k ≡ n → ⊥) → k < 32
     below k n x y v = omega (arith, v)
+
+-- what stops a call on the tracker that was put back stops it on the monitor
+pub stopped-back : (m : Monitor) (t : Tracker) → t ≡ m .tracker → (k kind p : ℕ) (r : Answered)
+    → ((x : Call) → Asked x kind p → Answers (with-tracker m t) (stopped (view (with-tracker m t)) x k (ruleOf (with-tracker m t) (k % 32))) r)
+    → (x : Call) → Asked x kind p → Answers m (stopped (view m) x k (ruleOf m (k % 32))) r
+stopped-back m t e k kind p r f =
+    subst (λ (u : Tracker). (x : Call) → Asked x kind p → Answers (with-tracker m u) (stopped (view (with-tracker m u)) x k (ruleOf (with-tracker m u) (k % 32))) r) e f
+
+-- a refused call leaves the tracker's parts as they were
+pub call-kept : (t u : Tracker) (q : Option Call) (n : ℕ) → (n ≡ 0 → ⊥) → Works n (trackerView t) (trackerView u) q → t ≡ u
+call-kept t u q n z w =
+    view-same t u [] (state-done (trackerView u []) (trackerView t []) q n (w []) ∙ sym (state-kept (trackerView u []) (trackerView t []) q n z (w [])))
 
 module _ (s : State) (q : Call) (n : ℕ) (r : Rule) where
   pub not-diverted : mayDivert s q r ≡ false → stopped s q n r ≡ inhibits n
@@ -150,3 +165,10 @@ module _ (m : Monitor) (kind p a b c : ℕ) where
           let k : x .process ≡ p % 16 = sym (mod-eq-of-lt l) ∙ ap (λ (y : ℕ). y % 16) (i .1) in
           subst (λ (o : Outcome). Answers m o r) (ap (outcomeOfCall (view m) (some x)) n)
           (f x (record { asked = record { kind-is = i .0; process-is = k }; leads-to = v ∙ ap (λ (o : Option ℕ). stateBy (view m) (some x) o .state) (sym n) }))
+
+  -- a call that is not refused and breaks no rule is allowed
+  pub call-allowed : (t : Tracker) → none ≡ firstThat (callTests (view m) q) → trackerView t (rulesOf m) ≡ worked (view m) q .state
+      → (k : ℕ) → Searched m t k → (n : ℕ) → n ≡ countOf (m .loaded) → k ≡ n → Answers m (outcomeOf (view m) (aCall kind p a b c)) (record { answer = Allow; monitor = with-tracker m t })
+  unfolding view rulesOf ruleOf
+  call-allowed t e w k g n c z =
+      call-judged t _ e w (λ x v. allowed-as m _ (with-tracker m t) _ (allowed (view m) _ x (v .leads-to) (none-broken m t k g (z ∙ c))) (v .leads-to))

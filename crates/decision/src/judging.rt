@@ -3,10 +3,10 @@ ghost use mathlib.Core.Path.{_≡_};
 ghost use mathlib.Core.List.{List};
 ghost use Rattle.flow.specs.Box.{Rule};
 ghost use Rattle.flow.specs.Rules.{broken};
-ghost use Rattle.tracker.specs.View.{view as trackerView};
+ghost use Rattle.tracker.specs.View.{tracker, view as trackerView};
 ghost use Rattle.decision.specs.Judging.{stored, conditionAt, ruleFrom, brokenBy, firstFrom, countOf};
 use crate::Monitor;
-use tracker::Tracker;
+use tracker::parts::holders_by_item;
 
 pub const FORBID: u8 = 0x11;
 
@@ -61,12 +61,23 @@ fn lowest_broken(
 }
 
 // The lowest rule that the tracker's state breaks, and the number of rules where it breaks none.
-pub fn judge(t: Tracker, tags: &[u8; 32], items: &[u8; 32], sets: &[u64; 32], loaded: u8) -> u8
-    ensures { λ r. ⌜ ((rules : List Rule) → r ≡ firstFrom (countOf loaded) 0 (λ k. broken (trackerView t rules) (ruleFrom (conditionAt (now (tags .entry)) (now (items .entry)) (now (sets .entry)) k) 0 0))) ⌝ }
+pub fn judge(
+    live: u64,
+    items: &[u64; 64],
+    feeders: &[u64; 16],
+    fed: &[u64; 16],
+    descriptors: &[u8; 512],
+    names: &[u8; 128],
+    tags: &[u8; 32],
+    ruled: &[u8; 32],
+    sets: &[u64; 32],
+    loaded: u8,
+) -> u8
+    ensures { λ r. ⌜ ((rules : List Rule) → r ≡ firstFrom (countOf loaded) 0 (λ k. broken (trackerView (tracker live (now (items .entry)) (now (feeders .entry)) (now (fed .entry)) (now (descriptors .entry)) (now (names .entry))) rules) (ruleFrom (conditionAt (now (tags .entry)) (now (ruled .entry)) (now (sets .entry)) k) 0 0))) ⌝ }
 {
     if loaded == 0 {
         return 0;
     }
-    let holders = t.holders_by_item();
-    lowest_broken(&holders, tags, items, sets, loaded)
+    let held = holders_by_item(live, items, feeders, fed, descriptors, names);
+    lowest_broken(&held, tags, ruled, sets, loaded)
 }

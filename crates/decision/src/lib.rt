@@ -1,33 +1,19 @@
 // The decision point: the rules above the tracker, verdicts, and what a record gets (document 01, What a record gets).
 mod judging;
 mod logs;
+pub mod parts;
 mod rules;
 
-ghost use Prim.Native.Nat.{_%_};
-ghost use Rattle.flow.specs.Calls.{Call as CallOf};
-ghost use Rattle.flow.specs.Verdicts.{stopped as stoppedBy, verdict};
-ghost use Rattle.records.specs.Reading.{aRule, outcomeOf};
 ghost use Rattle.tracker.specs.Replies.{Answered as HoldersAnswered};
-ghost use Rattle.decision.specs.Judging.{conditionFrom, ruleFrom};
-ghost use Rattle.decision.specs.View.{ruleOf, view};
+ghost use Rattle.decision.specs.View.{view};
 ghost use Rattle.decision.specs.Logs.{Runs};
-ghost use Rattle.decision.specs.Answers.{Made, AnswersRecord, AnswersCall, AnswersItems, Answers, Asked, WorkedOut};
-use judging::CONFINE;
-use judging::FORBID;
-use judging::SEPARATE;
-use judging::breaks;
-use judging::count;
-use judging::judge;
-use logs::code;
-use logs::records_in;
-use records::Record;
-use records::extent;
-use records::read;
-use rules::unfit;
+ghost use Rattle.decision.specs.Answers.{Made, AnswersRecord, AnswersCall, AnswersItems};
+use parts::answer_in;
+use parts::call_in;
+use parts::run_in;
 use tracker::Tracker;
-use tracker::Work;
-use tracker::numbers::Container;
-use tracker::numbers::Process;
+use tracker::parts::restore;
+use tracker::parts::saved;
 use tracker::queries::Reply;
 
 // A tracker with its rules: what document 01 calls a tracker. A rule's number is its place in the five tables.
@@ -95,66 +81,58 @@ impl Monitor {
         t.holders(i, out)
     }
 
-    // Rule number k stops a call of this kind by process p: a write may be diverted, all else is inhibited. The call has tested p, and
-    // the substitute was tested when the rule was loaded.
-    fn stopped(self, k: u8, kind: u8, p: u8) -> Answered
-        ensures { λ r. ⌜ ((q : CallOf) → Asked q kind p → Answers self (stoppedBy (view self) q k (ruleOf self (k % 32))) r) ⌝ }
+    // What a call of any five bytes gets.
+    pub fn call(self, kind: u8, p: u8, a: u8, b: u8, c: u8) -> Answered
+        ensures { λ r. ⌜ AnswersCall self kind p a b c r ⌝ }
     {
-        let i = (k % 32) as usize;
-        let action = self.actions[i];
-        let to = self.substitutes[i] % 64;
+        let mut live = 0u64;
+        let mut items = [0u64; 64];
+        let mut feeders = [0u64; 16];
+        let mut fed = [0u64; 16];
+        let mut descriptors = [0u8; 512];
+        let mut names = [0u8; 128];
         let t = self.tracker;
-        if (action != 1) | (kind != 9) {
-            return Answered {
-                answer: Answer::Inhibit(k),
-                monitor: self,
-            };
-        }
-        if !t.in_use(Container(to)) {
-            return Answered {
-                answer: Answer::Inhibit(k),
-                monitor: self,
-            };
-        }
-        let diverted = t.write_to(Process(p), Container(to));
+        restore(
+            &mut live,
+            &mut items,
+            &mut feeders,
+            &mut fed,
+            &mut descriptors,
+            &mut names,
+            t,
+        );
         let tags = self.tags;
-        let items = self.items;
+        let ruled = self.items;
         let sets = self.sets;
-        let loaded = self.loaded;
-        if judge(diverted, &tags, &items, &sets, loaded) != count(loaded) {
-            return Answered {
-                answer: Answer::Inhibit(k),
-                monitor: self,
-            };
-        }
-        let mut next = self;
-        next.tracker = diverted;
-        Answered {
-            answer: Answer::Modify(k, to),
-            monitor: next,
-        }
-    }
-
-    // The verdict on a call of this kind by process p that leads to the tracker `after`.
-    fn judged(self, after: Tracker, kind: u8, p: u8) -> Answered
-        ensures { λ r. ⌜ ((q : CallOf) → WorkedOut self after q kind p → Answers self (verdict (view self) q) r) ⌝ }
-    {
-        let tags = self.tags;
-        let items = self.items;
-        let sets = self.sets;
-        let loaded = self.loaded;
-        let k = judge(after, &tags, &items, &sets, loaded);
-        if k != count(loaded) {
-            return self.stopped(k, kind, p);
-        }
         let actions = self.actions;
         let substitutes = self.substitutes;
+        let loaded = self.loaded;
+        let answer = call_in(
+            &mut live,
+            &mut items,
+            &mut feeders,
+            &mut fed,
+            &mut descriptors,
+            &mut names,
+            &tags,
+            &ruled,
+            &sets,
+            &actions,
+            &substitutes,
+            loaded,
+            kind,
+            p,
+            a,
+            b,
+            c,
+        );
+        let after = saved(live, &items, &feeders, &fed, &descriptors, &names);
         Answered {
-            answer: Answer::Allow,
+            answer,
             monitor: Monitor {
                 tracker: after,
                 tags,
-                items,
+                items: ruled,
                 sets,
                 actions,
                 substitutes,
@@ -163,95 +141,59 @@ impl Monitor {
         }
     }
 
-    // A call of any five bytes: it is worked out, then judged.
-    pub fn call(self, kind: u8, p: u8, a: u8, b: u8, c: u8) -> Answered
-        ensures { λ r. ⌜ AnswersCall self kind p a b c r ⌝ }
-    {
-        let t = self.tracker;
-        let called = t.call(kind, p, a, b, c);
-        let work = called.work;
-        let after = called.tracker;
-        match work {
-            Work::Refused(n) => Answered {
-                answer: Answer::Refused(n),
-                monitor: self,
-            },
-            Work::Done => self.judged(after, kind, p),
-        }
-    }
-
-    // A rule; of tag 12 hex `set` is the second item.
-    fn load(self, tag: u8, item: u8, set: u64, action: u8, substitute: u8) -> Answered
-        ensures { λ r. ⌜ Answers self (outcomeOf (view self) (aRule (ruleFrom (conditionFrom tag item set) action substitute))) r ⌝ }
-    {
-        let n = unfit(tag, item, set, action, substitute);
-        if n != 0 {
-            return Answered {
-                answer: Answer::Refused(n),
-                monitor: self,
-            };
-        }
-        let at = self.loaded;
-        if Monitor::RULES <= at {
-            return Answered {
-                answer: Answer::Refused(11),
-                monitor: self,
-            };
-        }
-        let t = self.tracker;
-        let holders = t.holders_by_item();
-        if breaks(&holders, tag, item, set) {
-            return Answered {
-                answer: Answer::Refused(12),
-                monitor: self,
-            };
-        }
-        let mut next = self;
-        let i = at as usize;
-        next.tags[i] = tag;
-        next.items[i] = item;
-        next.sets[i] = set;
-        next.actions[i] = action;
-        next.substitutes[i] = substitute;
-        next.loaded = at + 1;
-        Answered {
-            answer: Answer::Loaded(at),
-            monitor: next,
-        }
-    }
-
     // What the record at the front of the bytes gets.
     pub fn answer(self, bytes: &[u8]) -> Answered
         ensures { λ r. ⌜ AnswersRecord self (now (bytes .entry)) r ⌝ }
     {
-        let record = read(bytes);
-        match record {
-            Record::Unreadable(n) => Answered {
-                answer: Answer::Refused(n),
-                monitor: self,
+        let mut live = 0u64;
+        let mut items = [0u64; 64];
+        let mut feeders = [0u64; 16];
+        let mut fed = [0u64; 16];
+        let mut descriptors = [0u8; 512];
+        let mut names = [0u8; 128];
+        let t = self.tracker;
+        restore(
+            &mut live,
+            &mut items,
+            &mut feeders,
+            &mut fed,
+            &mut descriptors,
+            &mut names,
+            t,
+        );
+        let mut tags = self.tags;
+        let mut ruled = self.items;
+        let mut sets = self.sets;
+        let mut actions = self.actions;
+        let mut substitutes = self.substitutes;
+        let mut loaded = self.loaded;
+        let answer = answer_in(
+            &mut live,
+            &mut items,
+            &mut feeders,
+            &mut fed,
+            &mut descriptors,
+            &mut names,
+            &mut tags,
+            &mut ruled,
+            &mut sets,
+            &mut actions,
+            &mut substitutes,
+            &mut loaded,
+            bytes,
+        );
+        let after = saved(live, &items, &feeders, &fed, &descriptors, &names);
+        Answered {
+            answer,
+            monitor: Monitor {
+                tracker: after,
+                tags,
+                items: ruled,
+                sets,
+                actions,
+                substitutes,
+                loaded,
             },
-            Record::Call(kind, p, a, b, c) => self.call(kind, p, a, b, c),
-            Record::Forbid(item, set, action, substitute) => self.load(
-                FORBID,
-                item,
-                set,
-                action,
-                substitute,
-            ),
-            Record::Separate(item, other, action, substitute) => self.load(
-                SEPARATE,
-                item,
-                other as u64,
-                action,
-                substitute,
-            ),
-            Record::Confine(item, set, action, substitute) => self.load(
-                CONFINE,
-                item,
-                set,
-                action,
-                substitute,
-            ),
         }
     }
 
@@ -259,28 +201,56 @@ impl Monitor {
     pub fn run(self, log: &[u8], codes: &mut [u32]) -> Ran
         ensures { λ r. ⌜ Runs self (now (log .entry)) (now (codes .entry)) r (now (codes .exit)) ⌝ }
     {
-        if codes.len() < records_in(log) {
-            return Ran {
-                reply: Reply::Refused(13),
-                monitor: self,
-            };
-        }
-        let mut m = self;
-        let mut at = 0usize;
-        let mut n = 0usize;
-        while at < log.len() {
-            let end = at + extent(&log[at..]);
-            let r = m.answer(&log[at..end]);
-            let answer = r.answer;
-            let after = r.monitor;
-            m = after;
-            codes[n] = code(answer);
-            at = end;
-            n += 1;
-        }
+        let mut live = 0u64;
+        let mut items = [0u64; 64];
+        let mut feeders = [0u64; 16];
+        let mut fed = [0u64; 16];
+        let mut descriptors = [0u8; 512];
+        let mut names = [0u8; 128];
+        let t = self.tracker;
+        restore(
+            &mut live,
+            &mut items,
+            &mut feeders,
+            &mut fed,
+            &mut descriptors,
+            &mut names,
+            t,
+        );
+        let mut tags = self.tags;
+        let mut ruled = self.items;
+        let mut sets = self.sets;
+        let mut actions = self.actions;
+        let mut substitutes = self.substitutes;
+        let mut loaded = self.loaded;
+        let reply = run_in(
+            &mut live,
+            &mut items,
+            &mut feeders,
+            &mut fed,
+            &mut descriptors,
+            &mut names,
+            &mut tags,
+            &mut ruled,
+            &mut sets,
+            &mut actions,
+            &mut substitutes,
+            &mut loaded,
+            log,
+            codes,
+        );
+        let after = saved(live, &items, &feeders, &fed, &descriptors, &names);
         Ran {
-            reply: Reply::Result(n as u64),
-            monitor: m,
+            reply,
+            monitor: Monitor {
+                tracker: after,
+                tags,
+                items: ruled,
+                sets,
+                actions,
+                substitutes,
+                loaded,
+            },
         }
     }
 }

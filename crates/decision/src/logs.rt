@@ -1,6 +1,6 @@
 // A whole log: how many records it has, and answers as numbers.
 use crate::Answer;
-use records::extent;
+use logreader::end_after;
 ghost use mathlib.Core.Path.{_≡_};
 ghost use lib.ListN.{length};
 ghost use Rattle.flow.specs.Records.{recordsOf};
@@ -14,7 +14,7 @@ pub fn records_in(log: &[u8]) -> usize
     let mut at = 0usize;
     let mut n = 0usize;
     while at < log.len() {
-        at = at + extent(&log[at..]);
+        at = end_after(log, at);
         n += 1;
     }
     n

@@ -1,6 +1,6 @@
 // A log reader (document 01, The form for each place): a reference to its log and a place in it.
 ghost use mathlib.Core.Path.{_≡_};
-ghost use Rattle.logreader.specs.Log.{recordAt};
+ghost use Rattle.logreader.specs.Log.{recordAt, endAfter};
 use records::extent;
 
 pub struct LogReader<'a> {
@@ -50,4 +50,15 @@ pub fn next_at(log: &[u8], at: usize) -> Found
     ensures { λ r. ⌜ r ≡ recordAt (now (log .entry)) at ⌝ }
 {
     next(moved(new(log), at))
+}
+
+// The place after the record at a place of a log, and that place itself at the log's end.
+pub fn end_after(log: &[u8], at: usize) -> usize
+    ensures { λ r. ⌜ r ≡ endAfter (now (log .entry)) at ⌝ }
+{
+    let found = next_at(log, at);
+    match found {
+        Found::Record(end) => end,
+        Found::End => at,
+    }
 }

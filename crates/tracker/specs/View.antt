@@ -16,6 +16,11 @@ tables live feeders fed descriptors names = state live [] feeders fed descriptor
 abbrev pub links : List ℕ → List ℕ → State
 links feeders fed = state 0 [] feeders fed [] [] []
 
+-- the tracker that has these parts
+abbrev pub tracker : ℕ → List ℕ → List ℕ → List ℕ → List ℕ → List ℕ → Tracker
+tracker live items feeders fed descriptors names =
+    record { live = live; items = items; feeders = feeders; fed = fed; descriptors = descriptors; names = names }
+
 -- the tracker's state, beside the rules, which are kept by the layer above
 unfoldable pub view : Tracker → List Rule → State
 view t rules = state (t .live) (t .items) (t .feeders) (t .fed) (t .descriptors) (t .names) rules

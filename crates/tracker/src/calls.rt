@@ -29,7 +29,7 @@ use crate::spread::reach;
 ghost use mathlib.Core.Option.{some};
 ghost use Rattle.flow.specs.Calls.{start, openName, create, pipe, device, dup, close, read, write, truncate, mapRead, mapBoth, unmap, unlink, rename, link, fork, exit, label};
 ghost use Rattle.flow.specs.Records.{callFrom};
-ghost use Rattle.tracker.specs.View.{state};
+ghost use Rattle.tracker.specs.View.{state, tracker, view};
 ghost use Rattle.tracker.specs.Worked.{call, Works};
 
 // As slices the lent arrays have their lengths, which the proofs use. Nothing is done.
@@ -697,7 +697,7 @@ pub fn call_in(
     b: u8,
     c: u8,
 ) -> u8
-    ensures { λ r. ⌜ Works r (state (now (live .exit)) (now (items .exit)) (now (feeders .exit)) (now (fed .exit)) (now (descriptors .exit)) (now (names .exit))) (state (now (live .entry)) (now (items .entry)) (now (feeders .entry)) (now (fed .entry)) (now (descriptors .entry)) (now (names .entry))) (callFrom kind p a b c) ⌝ }
+    ensures { λ r. ⌜ Works r (view (tracker (now (live .exit)) (now (items .exit)) (now (feeders .exit)) (now (fed .exit)) (now (descriptors .exit)) (now (names .exit)))) (view (tracker (now (live .entry)) (now (items .entry)) (now (feeders .entry)) (now (fed .entry)) (now (descriptors .entry)) (now (names .entry)))) (callFrom kind p a b c) ⌝ }
 {
     match kind {
         1 => start_call(live, items, feeders, fed, descriptors, names, p, a, b, c),

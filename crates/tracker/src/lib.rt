@@ -6,29 +6,21 @@ pub mod calls;
 mod cells;
 mod lookups;
 pub mod numbers;
+pub mod parts;
 pub mod queries;
 mod release;
 mod spread;
 
 ghost use mathlib.Core.Path.{_≡_};
 ghost use mathlib.Core.List.{List, []};
-ghost use Prim.Native.Nat.{_%_};
-ghost use Rattle.flow.specs.Tables.{table};
-ghost use Rattle.flow.specs.Box.{itemCount, own, Rule, fresh};
-ghost use Rattle.flow.specs.Links.{used};
-ghost use Rattle.flow.specs.Calls.{gift, after};
+ghost use Rattle.flow.specs.Box.{Rule, fresh};
 ghost use Rattle.flow.specs.Records.{callFrom};
-ghost use Rattle.flow.specs.Queries.{itemsQuery, holders};
+ghost use Rattle.flow.specs.Queries.{itemsQuery};
 ghost use Rattle.tracker.specs.View.{view};
 ghost use Rattle.tracker.specs.Replies.{replyOf, Answered};
 ghost use Rattle.tracker.specs.Calling.{Called as CalledRight};
 use calls::call_in;
-use cells::items_at;
-use numbers::Container;
-use numbers::Process;
 use queries::Reply;
-use spread::give;
-use spread::reach;
 
 // The state by value. The rules are kept by the layer above.
 pub struct Tracker {
@@ -93,40 +85,6 @@ impl Tracker {
     {
         let held = self.items;
         queries::holders_in(&held, i, out)
-    }
-
-    // For each item the set of the containers that hold it.
-    pub fn holders_by_item(self) -> [u64; 64]
-        ensures { λ r. ⌜ ((rules : List Rule) → r ≡ table itemCount (λ i. holders (view self rules) i)) ⌝ }
-    {
-        let rows = self.items;
-        transpose::transpose(rows)
-    }
-
-    // Whether container c is in use.
-    pub fn in_use(self, c: Container) -> bool
-        ensures { λ r. ⌜ ((rules : List Rule) → r ≡ used (view self rules) (c .0 % 64)) ⌝ }
-    {
-        let feeders = self.feeders;
-        let fed = self.fed;
-        let descriptors = self.descriptors;
-        let names = self.names;
-        lookups::in_use(self.live, &feeders, &fed, &descriptors, &names, c)
-    }
-
-    // What process p holds is given to container c: a write to c, whether or not a descriptor leads there.
-    pub fn write_to(self, p: Process, c: Container) -> Tracker
-        ensures { λ r. ⌜ ((rules : List Rule) → view r rules ≡ after (view self rules) (record { tables = view self rules; flow = gift (own (p .0 % 16)) (c .0 % 64) })) ⌝ }
-    {
-        let mut items = self.items;
-        let feeders = self.feeders;
-        let fed = self.fed;
-        let x = items_at(&items, Container(8 + p.0 % 16));
-        let r = reach(&feeders, &fed, c);
-        give(&mut items, r, x);
-        let mut after = self;
-        after.items = items;
-        after
     }
 
     // A call of any five bytes: kind, process, a, b, c.

@@ -1,33 +1,20 @@
--- `Monitor::call` works a call out, then judges it.
-use mathlib.Core.Path.{sym, ap, _∙_}
-use Rattle.tracker.specs.Calling.{refusalOf}
-use Rattle.decision.specs.View.{view}
-use Rattle.decision.proofs.AnswerLaws.{refused-as}
-use Rattle.decision.proofs.VerdictLaws.{call-refused, call-judged}
+-- `Monitor::call` lends its parts.
+use Rattle.decision.proofs.AnswerLaws.{call-parts}
 use borrow.Author.Needs.{needs}
 use Rattle.decision.proofs.Monitor.call.Statement.{statement}
 use Rattle.decision.proofs.Monitor.call.Tie as tie
 
-call-requires : tie.Need-call-requires
-call-requires c κs = search needs
+restore-requires : tie.Need-restore-requires
+restore-requires c κs = search needs
 
-enum-known-work : tie.Need-enum-known-work
-enum-known-work c = search needs
+call-in-requires : tie.Need-call-in-requires
+call-in-requires c κs = search needs
 
-enum-told : tie.Need-enum-told
-enum-told c = search needs
-
-judged-requires : tie.Need-judged-requires
-judged-requires c κs = search needs
+saved-requires : tie.Need-saved-requires
+saved-requires c κs = search needs
 
 returns : tie.Need-returns
-unfolding view refusalOf
-returns c = refused-as _ _ _ (call-refused _ _ _ _ _ _ _ (ap refusalOf (sym (c .before .work .given .1)) ∙ c .before .before .before .before .call .ensures .refusal _))
-
-returns-2 : tie.Need-returns-2
-unfolding view refusalOf
-returns-2 c = call-judged _ _ _ _ _ _ _ _ (ap refusalOf (sym (c .before .enum-told .given .1)) ∙ c .before .before .before .before .call .ensures .refusal _) (c .before .before .before .before .call .ensures .worked-out _) (c .judged .ensures)
+returns c = call-parts _ _ (c .before .before .before .before .before .before .before .before .before .before .before .before .before .before .before .before .before .before .before .before .before .before .before .restore .ensures) _ _ (c .saved .ensures) _ _ _ _ _ _ _ _ _ _ _ _ (c .before .before .before .before .before .before .call-in .ensures)
 
 pub call-spec : {M : Type 1} → statement M
-call-spec =
-    tie.close (tie.spec call-requires enum-known-work enum-told judged-requires returns returns-2)
+call-spec = tie.close (tie.spec restore-requires call-in-requires saved-requires returns)

@@ -15,7 +15,7 @@ lowest-broken-requires : tie.Need-lowest-broken-requires
 lowest-broken-requires c κs = search needs
 
 returns-2 : tie.Need-returns-2
-returns-2 c = λ rules. c .lowest-broken .ensures ∙ judged-by _ _ (c .before .before .before .before .args .tags .now) (c .before .before .before .before .args .items .now) (c .before .before .before .before .args .sets .now) _ (c .before .before .holders-by-item .ensures rules)
+returns-2 c = λ rules. c .lowest-broken .ensures ∙ judged-by _ _ (c .before .before .before .before .args .tags .now) (c .before .before .before .before .args .ruled .now) (c .before .before .before .before .args .sets .now) _ (c .before .before .holders-by-item .ensures rules)
 
 pub judge-spec : {M : Type 1} → statement M
 judge-spec = tie.close (tie.spec returns holders-by-item-requires lowest-broken-requires returns-2)

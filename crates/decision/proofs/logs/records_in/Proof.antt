@@ -2,7 +2,7 @@
 use Prim.Native.Nat.{_-_}
 use native.Mathlib.Omega.{arith}
 use lib.ListN.{length}
-use Rattle.decision.proofs.LogLaws.{Counted, count-start, count-more, count-end, extent-some, extent-fits}
+use Rattle.decision.proofs.LogLaws.{Counted, count-start, count-more, count-end, end-past, end-within}
 use borrow.Author.Needs.{needs}
 use Rattle.decision.proofs.logs.records_in.Statement.{statement}
 use Rattle.decision.proofs.logs.records_in.Tie as tie
@@ -16,29 +16,17 @@ abbrev μ-loop : tie.MeasureT-loop
 loop-holds : tie.Need-loop-holds Inv-loop μ-loop
 loop-holds c = count-start _
 
-sub-extent : tie.Need-sub-extent Inv-loop μ-loop
-sub-extent c = search needs
-
-part-extent-start : tie.Need-part-extent-start Inv-loop μ-loop
-part-extent-start c = search needs
-
-part-extent-end : tie.Need-part-extent-end Inv-loop μ-loop
-part-extent-end c = search needs
-
-extent-requires : tie.Need-extent-requires Inv-loop μ-loop
-extent-requires c κs = search needs
-
-add-at : tie.Need-add-at Inv-loop μ-loop
-add-at c = omega (arith, extent-fits (c .before .before .before .loop .inv) (c .before .before .loop-test .taken) _ (c .extent .ensures))
+end-after-requires : tie.Need-end-after-requires Inv-loop μ-loop
+end-after-requires c κs = search needs
 
 add-n : tie.Need-add-n Inv-loop μ-loop
 add-n c = search needs
 
 loop-less : tie.Need-loop-less Inv-loop μ-loop
-loop-less c = omega (arith, extent-some (c .before .before .before .loop .inv) (c .before .before .loop-test .taken) _ (c .extent .ensures), extent-fits (c .before .before .before .loop .inv) (c .before .before .loop-test .taken) _ (c .extent .ensures))
+loop-less c = omega (arith, end-past (c .before .before .loop .inv) (c .before .loop-test .taken) _ (c .end-after .ensures), end-within (c .before .before .loop .inv) (c .before .loop-test .taken) _ (c .end-after .ensures))
 
 loop-again : tie.Need-loop-again Inv-loop μ-loop
-loop-again c = count-more (c .before .before .before .loop .inv) (c .before .before .loop-test .taken) _ (c .extent .ensures)
+loop-again c = count-more (c .before .before .loop .inv) (c .before .loop-test .taken) _ (c .end-after .ensures)
 
 returns : tie.Need-returns Inv-loop μ-loop
 returns c = count-end (c .before .loop .inv) (c .loop-test .left)
@@ -46,16 +34,4 @@ returns c = count-end (c .before .loop .inv) (c .loop-test .left)
 pub records-in-spec : {M : Type 1} → statement M
 records-in-spec =
     tie.close
-    (tie.spec
-    Inv-loop
-    μ-loop
-    loop-holds
-    sub-extent
-    part-extent-start
-    part-extent-end
-    extent-requires
-    add-at
-    add-n
-    loop-less
-    loop-again
-    returns)
+    (tie.spec Inv-loop μ-loop loop-holds end-after-requires add-n loop-less loop-again returns)

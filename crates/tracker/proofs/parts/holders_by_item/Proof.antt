@@ -1,12 +1,12 @@
--- `Tracker::holders_by_item` turns the storage map round.
+-- `holders_by_item` turns the storage map round.
 use borrow.Author.Needs.{needs}
 use Rattle.flow.specs.Box.{itemsOf}
 use Rattle.flow.specs.Rules.{holds}
 use Rattle.flow.specs.Queries.{holders}
 use Rattle.transpose.specs.Transposed.{transposed}
 use Rattle.tracker.specs.View.{view}
-use Rattle.tracker.proofs.Tracker.holders_by_item.Statement.{statement}
-use Rattle.tracker.proofs.Tracker.holders_by_item.Tie as tie
+use Rattle.tracker.proofs.parts.holders_by_item.Statement.{statement}
+use Rattle.tracker.proofs.parts.holders_by_item.Tie as tie
 
 transpose-requires : tie.Need-transpose-requires
 transpose-requires c κs = search needs
