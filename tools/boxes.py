@@ -26,6 +26,7 @@ GAP = 5  # between two tokens
 CHIP_WIDTH = 24
 MARKED_WIDTH = 32
 CHIP_HEIGHT = 16
+SATURATION = 0.75
 LEAST_CONTRAST = 7.5  # of a chip with black
 
 # Marks: what the last record did to a thing, or would have done.
@@ -134,7 +135,8 @@ def item_section(view: View, container: int) -> Tuple[Token, ...]:
 def never_section(view: View, container: int) -> Tuple[Token, ...]:
     """The items that a rule forbids the container."""
     items = sorted(view.forbidden.get(container, ()))
-    return (Token("forbidden:", style="n"), *(chip(item, "", NEVER) for item in items)) if items else ()
+    label = [Token("forbidden", style="n")] if items else []
+    return (*label, *(chip(item, "", NEVER) for item in items))
 
 
 def name_marks(view: View, container: int) -> Dict[int, str]:
@@ -201,7 +203,7 @@ def number(value: float) -> str:
     return f"{value:.1f}".removesuffix(".0")
 
 
-def element(tag: str, text: str = "", **attributes: object) -> str:
+def element(tag: str, text: str = "", /, **attributes: object) -> str:
     """An SVG element; `sort` is its class."""
     listed = ""
     for name, value in attributes.items():
@@ -217,17 +219,23 @@ def path(*parts: object) -> str:
 
 def contrast(red: float, green: float, blue: float) -> float:
     """The contrast of a colour with black, from 1 to 21."""
-    parts = [c / 12.92 if c <= 0.04045 else ((c + 0.055) / 1.055) ** 2.4 for c in (red, green, blue)]
-    return 20 * (0.2126 * parts[0] + 0.7152 * parts[1] + 0.0722 * parts[2]) + 1
+
+    def linear(part: float) -> float:
+        return part / 12.92 if part <= 0.04045 else ((part + 0.055) / 1.055) ** 2.4
+
+    luminance = 0.2126 * linear(red) + 0.7152 * linear(green) + 0.0722 * linear(blue)
+    return 20 * luminance + 1
 
 
 def item_colour(item: int) -> str:
     """The colour of an item's chip, light enough for dark digits."""
     hue = item * 0.381966 % 1
     lightness = (0.62, 0.72, 0.80)[item // 8 % 3]
-    while contrast(*colorsys.hls_to_rgb(hue, lightness, 0.75)) < LEAST_CONTRAST:
+    colour = colorsys.hls_to_rgb(hue, lightness, SATURATION)
+    while contrast(*colour) < LEAST_CONTRAST:
         lightness += 0.01
-    return "#" + "".join(f"{int(part * 255):02x}" for part in colorsys.hls_to_rgb(hue, lightness, 0.75))
+        colour = colorsys.hls_to_rgb(hue, lightness, SATURATION)
+    return "#" + "".join(f"{int(part * 255):02x}" for part in colour)
 
 
 COLOURS = [item_colour(item) for item in ITEMS]

@@ -44,7 +44,7 @@ def moves(before: Dict[Key, int], after: Dict[Key, int]) -> "Moves[Key]":
 
 def items_more(less: State, more: State) -> Dict[int, FrozenSet[int]]:
     """What each container holds in one state and not in the other."""
-    pairs = ((c, more.items[c] - less.items[c]) for c in CONTAINERS if more.items[c] != less.items[c])
+    pairs = ((container, more.items[container] - less.items[container]) for container in CONTAINERS)
     return {container: items for container, items in pairs if items}
 
 

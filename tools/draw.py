@@ -4,7 +4,20 @@ import textwrap
 from typing import Iterable, List, Tuple
 
 import modelpath  # noqa: F401  (before the modules of the model)
-from boxes import CHARACTER, CHIP_HEIGHT, COLOURS, GAP, GONE, LINE, NEVER, NEW, STOPPED, STYLE, TEXT_SIZE, TITLE_SIZE
+from boxes import (
+    CHARACTER,
+    CHIP_HEIGHT,
+    COLOURS,
+    GAP,
+    GONE,
+    LINE,
+    NEVER,
+    NEW,
+    STOPPED,
+    STYLE,
+    TEXT_SIZE,
+    TITLE_SIZE,
+)
 from boxes import Content, Token, chip, element, number, path, token_elements
 from explain import explain
 from names import Own

@@ -48,7 +48,9 @@ def path_text(origin: Origin) -> str:
     return ", ".join(f"{short(u)} -> {short(v)} (record {n})" for u, v, n in links)
 
 
-def way_lines(words: Words, origin: Origin, depth: int, present: Optional[int] = None) -> List[Line]:
+def way_lines(
+    words: Words, origin: Origin, depth: int, present: Optional[int] = None
+) -> List[Line]:
     """The way of an item, a line for each record of it; the present one is said to be so."""
     lines = []
     for step in chain(origin):
@@ -60,7 +62,9 @@ def way_lines(words: Words, origin: Origin, depth: int, present: Optional[int] =
     return lines
 
 
-def place_lines(words: Words, moment: Moment, rule: Rule, container: int, present: int) -> List[Line]:
+def place_lines(
+    words: Words, moment: Moment, rule: Rule, container: int, present: int
+) -> List[Line]:
     """The ways of a rule's items to a container that breaks it."""
     lines: List[Line] = []
     for item in rule.items:
@@ -207,10 +211,11 @@ def idle_text(words: Words, step: Step) -> str:
     state, call = step.before.state, step.record
     if call.kind == TRUNCATE:
         file = state.descriptors[call.process, call.a]
-        links = [f"{words.link(*u)} (record {n})" for u, n in step.before.began.items() if u[1] == file]
-        if links:
-            return f"nothing: {words.container(file)} is not emptied, for a link leads into it: {links[0]}"
-        return f"nothing: {words.container(file)} is empty already"
+        link = min((link for link in state.links if link[1] == file), default=None)
+        if link is None:
+            return f"nothing: {words.container(file)} is empty already"
+        into = f"{words.link(*link)} (record {step.before.began[link]})"
+        return f"nothing: {words.container(file)} is not emptied, for a link leads into it: {into}"
     given = [
         f"{words.container(target)} holds {what} already"
         for giver, target in gifts_of(call, step.answer, state)

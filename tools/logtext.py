@@ -136,7 +136,7 @@ def set_text(
             runs[-1].append(number)
         else:
             runs.append([number])
-    words = []
+    words: List[str] = []
     for run in runs:
         words += [f"{run[0]}{dash}{run[-1]}"] if len(run) > 2 else map(names.word, run)
     return comma.join(words) or EMPTY_SET

@@ -77,7 +77,8 @@ def picture_data(views: List[View], own: Own) -> Dict[str, Any]:
     painter = Painter(plan)
     scenes = [painter.scene(view, boxes) for view, boxes in zip(views, contents)]
     table = Table()
-    differences = [difference(*pair, table) for pair in zip([{}, *scenes], scenes)]
+    none: Scene = {}
+    differences = [difference(*pair, table) for pair in zip([none, *scenes], scenes)]
     keys = {key for scene in scenes for key in scene}
     return {
         "elements": list(table.numbers),

@@ -4,7 +4,7 @@ A new kind of call is a line in CALLS and, if it gives items, one in HOPS. A new
 sort of rule is a line in RULES, a new answer one in ANSWERS.
 """
 
-from typing import Dict, Union
+from typing import Any, Dict
 
 import modelpath  # noqa: F401  (before the modules of the model)
 from limits import (
@@ -155,7 +155,7 @@ def action_text(words: Words, rule: Rule) -> str:
     return ACTIONS.get(rule.action, wrong).format(substitute=words.container(rule.substitute))
 
 
-def sentence(words: Words, record: Union[Call, Rule, None], state: State) -> str:
+def sentence(words: Words, record: Any, state: State) -> str:
     """A record in words."""
     if record is None:
         return "bytes that are no record of a known tag and length"

@@ -5,12 +5,12 @@ the item and has the giver's own Origin of that moment, so the way of an item is
 a chain that ends at a label and that later records cannot change.
 """
 
-from typing import Dict, Iterator, List, NamedTuple, Optional, Tuple, Union
+from typing import Any, Dict, Iterator, List, NamedTuple, Optional, Tuple
 
 import modelpath  # noqa: F401  (before the modules of the model)
 from contents import gifts
 from limits import CALL_TAG, CREATE, FORK, PIPE, VALUE_LENGTHS, process_container
-from records import Call, Rule, decode_call, decode_rule, read_frame
+from records import Call, decode_call, decode_rule, read_frame
 from tracker import ALLOW, Answer, State, Tracker, work_out
 
 Link = Tuple[int, int]
@@ -49,7 +49,7 @@ class Step(NamedTuple):
 
     number: int  # from 1
     data: bytes
-    record: Union[Call, Rule, None]  # None if it has no known tag and length
+    record: Any  # a Call or a Rule; None if it has no known tag and length
     answer: Answer
     before: Moment
     after: Moment
@@ -61,7 +61,7 @@ def fresh() -> Moment:
     return Moment(State(), {}, {}, {}, ())
 
 
-def record_of(data: bytes) -> Union[Call, Rule, None]:
+def record_of(data: bytes) -> Any:
     """The call or the rule of a record; None if it has no known tag and length."""
     frame = read_frame(data)
     if frame is None or len(frame.value) != VALUE_LENGTHS.get(frame.tag):
@@ -83,7 +83,7 @@ def routes(state: State, container: int) -> Dict[int, Tuple[int, ...]]:
     targets: Dict[int, List[int]] = {}
     for source, target in sorted(state.links):
         targets.setdefault(source, []).append(target)
-    found = {container: (container,)}
+    found: Dict[int, Tuple[int, ...]] = {container: (container,)}
     queue = [container]
     for source in queue:
         for target in targets.get(source, []):
@@ -121,7 +121,7 @@ def moved_on(moment: Moment, after: State, number: int, call: Call, answer: Answ
 
 
 def next_moment(
-    moment: Moment, after: State, number: int, record: Union[Call, Rule, None], answer: Answer
+    moment: Moment, after: State, number: int, record: Any, answer: Answer
 ) -> Moment:
     """The moment after a record."""
     if isinstance(record, Call) and answer.word in DONE:

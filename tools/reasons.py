@@ -4,12 +4,12 @@ TESTS has a function for each refusal. It gives the tests of that row that fail,
 each with the field to change and the values with which it would pass.
 """
 
-from typing import Any, Callable, Dict, List, NamedTuple, Optional, Sequence, Union
+from typing import Any, Callable, Dict, List, NamedTuple, Optional, Sequence
 
 import modelpath  # noqa: F401  (before the modules of the model)
 import limits
-from limits import DESCRIPTORS, DEVICES, FILES, HEADER_LENGTH, ITEMS, KINDS, NAMES, PROCESSES
-from limits import RULE_LIMIT, VALUE_LENGTHS, process_container
+from limits import DESCRIPTORS, FILES, HEADER_LENGTH, ITEMS, KINDS, NAMES, PROCESSES
+from limits import RULE_LIMIT, VALUE_LENGTHS
 from logtext import FORMS, Form
 from phrases import WORD_OF_KIND
 from records import Call, Rule, read_frame
@@ -30,7 +30,6 @@ from tracker import (
 )
 from words import Words, joined, numbers_text, plural
 
-Record = Union[Call, Rule]
 RULE_ITEMS = ("first", "second")  # the items of a rule as fields
 
 
@@ -62,17 +61,18 @@ class Refusal(NamedTuple):
 
     number: int
     failed: List[Failed]
-    mended: Optional[Record]  # with values that pass these tests; None if there are none
+    mended: Any  # the record with values that pass these tests; None if there are none
     then: Optional["Refusal"]  # what the mended record is refused with
 
 
-def refusal_number(state: State, record: Record) -> Optional[int]:
+def refusal_number(state: State, record: Any) -> Optional[int]:
     """What a record of a known tag and length is refused with."""
-    found = (call_refusals if isinstance(record, Call) else rule_refusals)(state, record)
+    is_call = isinstance(record, Call)
+    found = call_refusals(state, record) if is_call else rule_refusals(state, record)
     return first_refusal(found) if found else None
 
 
-def replaced(record: Record, field: str, value: Any) -> Record:
+def replaced(record: Any, field: str, value: Any) -> Any:
     """A record with one field changed."""
     if field in RULE_ITEMS:
         items = list(record.items)
@@ -178,8 +178,11 @@ def users(case: Case, container: int) -> str:
     state = case.state
     names = sorted(name for name, target in state.names.items() if target == container)
     found = [plural("name", names)] if names else []
-    for process in sorted({key[0] for key, target in state.descriptors.items() if target == container}):
-        numbers = [d for (p, d), t in sorted(state.descriptors.items()) if (p, t) == (process, container)]
+    opened: Dict[int, List[int]] = {}
+    for (process, descriptor), target in sorted(state.descriptors.items()):
+        if target == container:
+            opened.setdefault(process, []).append(descriptor)
+    for process, numbers in opened.items():
         found.append(f"{plural('descriptor', numbers)} of process {process}")
     links = [case.words.link(*link) for link in sorted(state.links) if container in link]
     return joined([*found, *(f"link {link}" for link in links)])
@@ -197,7 +200,8 @@ def taken_descriptors(case: Case) -> List[Failed]:
         number = getattr(call, field)
         target = case.leads(number)
         if target is not None:
-            text = f"descriptor {number} of {owner} is open and leads to {case.words.container(target)}"
+            led = case.words.container(target)
+            text = f"descriptor {number} of {owner} is open and leads to {led}"
             found.append(Failed(text, field, closed, "closed one{s}", none))
     return found
 
@@ -254,7 +258,9 @@ def missing(case: Case) -> List[Failed]:
         text = f"there is no link between {owner} and {words.container(call.a)}"
         ends = {end for link in state.links if call.caller in link for end in link}
         none = f"{owner} has no link at all: map a descriptor first"
-        return [Failed(text, "a", sorted(ends - {call.caller}), "container{s} linked with it", none)]
+        return [
+            Failed(text, "a", sorted(ends - {call.caller}), "container{s} linked with it", none)
+        ]
     text = f"{words.container(call.a)} is not in use"
     return [Failed(text, "a", sorted(state.used()), "container{s} in use")]
 
@@ -307,7 +313,9 @@ def broken_already(case: Case) -> List[Failed]:
     inside = rule.tag == limits.DENY_TAG
     fixed = rule.containers.symmetric_difference(places)
     change = "without {} in its set" if inside else "with {} in its set too"
-    advice = f"it would be loaded {change.format(numbers_text(places))}, or before the item gets there"
+    advice = (
+        f"it would be loaded {change.format(numbers_text(places))}, or before the item gets there"
+    )
     return [Failed(text, "containers", [fixed], advice=advice)]
 
 
@@ -330,7 +338,7 @@ TESTS: Dict[int, Callable[[Case], List[Failed]]] = {
 # What would have passed.
 
 
-def mend(case: Case, failed: List[Failed]) -> Optional[Record]:
+def mend(case: Case, failed: List[Failed]) -> Any:
     """The record with values that pass the failed tests, of a single field one that passes all."""
     if case.record is None or not all(test.values for test in failed):
         return None

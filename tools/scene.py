@@ -26,6 +26,7 @@ HEAD = 8  # of an arrow
 Group = Tuple[str, ...]  # elements
 Scene = Dict[str, Group]  # by the group's name, in the order of drawing
 Contents = Dict[int, Content]  # by container
+Sides = Dict[Tuple[int, bool], List[Link]]  # the links at the left or right side of each box
 
 
 class Plan(NamedTuple):
@@ -70,10 +71,12 @@ def make_columns(heights: Dict[int, float]) -> List[Tuple[str, List[int]]]:
     return [(heading, left), ("processes", middle), ("files and pipes", right)]
 
 
-def end_order(pairs: Iterable[Link], columns: List[Tuple[str, List[int]]]) -> Dict:
+def end_order(pairs: Iterable[Link], columns: List[Tuple[str, List[int]]]) -> Sides:
     """The pairs that meet each side of each box, in the order of their other ends."""
-    rank = {c: (number, place) for number, (_, col) in enumerate(columns) for place, c in enumerate(col)}
-    sides: Dict[Tuple[int, bool], List[Link]] = {}
+    rank: Dict[int, Tuple[int, int]] = {}
+    for number, (_, column) in enumerate(columns):
+        rank.update((container, (number, place)) for place, container in enumerate(column))
+    sides: Sides = {}
     for process, other in pairs:
         to_left = rank[other][0] == 0
         sides.setdefault((process, to_left), []).append((process, other))

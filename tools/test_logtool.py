@@ -376,7 +376,9 @@ def test_terminal_gets_no_bytes(checks: Checks, options: Options) -> None:
 
 def test_own_process(checks: Checks, options: Options) -> None:
     for words, status in ((["disassemble", "-"], 0), (["show", "no-directory/file"], 2)):
-        result = subprocess.run(LOGTOOL + words, input=b"\x10\x00\x00", capture_output=True, timeout=60)
+        result = subprocess.run(
+            LOGTOOL + words, input=b"\x10\x00\x00", capture_output=True, timeout=60
+        )
         checks.equal(f"own process {words}: status", result.returncode, status)
         checks.equal(f"own process {words}: messages", result.stderr.count(b"\n"), int(status > 0))
 

@@ -4,7 +4,14 @@ from typing import Dict, FrozenSet, Iterable, List, NamedTuple, Optional, Set
 
 import modelpath  # noqa: F401  (before the modules of the model)
 from changes import Changes, changes_between
-from limits import CONTAINERS, DENY_TAG, DEVICES, DIVERT_ACTION, PROCESS_CONTAINERS, process_container
+from limits import (
+    CONTAINERS,
+    DENY_TAG,
+    DEVICES,
+    DIVERT_ACTION,
+    PROCESS_CONTAINERS,
+    process_container,
+)
 from provenance import Link, Moment, Step, fresh
 from reasons import broken_places
 from tracker import State, forbids

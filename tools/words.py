@@ -62,7 +62,9 @@ class Words:
 
     def process(self, number: int) -> str:
         """A process with its own name."""
-        return self.container(process_container(number)) if number in PROCESSES else f"process {number}"
+        if number not in PROCESSES:
+            return f"process {number}"
+        return self.container(process_container(number))
 
     def item(self, number: int) -> str:
         """An item with its own name."""

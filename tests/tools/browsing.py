@@ -24,7 +24,9 @@ INSTALL = "apt-get update && apt-get install -y chromium"
 INSTALL_SECONDS = 600
 SECONDS = 120  # for a page
 ACTING = Path(__file__).resolve().parent / "acting.js"
-CATCH = '<script>window.faults = []; addEventListener("error", e => faults.push(e.message));</script>'
+CATCH = (
+    '<script>window.faults = []; addEventListener("error", e => faults.push(e.message));</script>'
+)
 LONG_RECORDS = 2000
 LARGEST_PAGE = 4_000_000  # bytes, of so many records
 SLOWEST = 0.1  # seconds for a step
@@ -57,7 +59,9 @@ def dumped(browser: str, path: Path, mark: str = "") -> str:
     return run.stdout.decode(errors="replace")
 
 
-def acted(browser: str, page: str, actions: List[Action], mark: str = "", noting: bool = True) -> Any:
+def acted(
+    browser: str, page: str, actions: List[Action], mark: str = "", noting: bool = True
+) -> Any:
     """What the page shows after each action, or after the last."""
     given = f"const actions = {json.dumps(actions)}, noting = {json.dumps(noting)};"
     script = f"<script>{given}</script><script>{ACTING.read_text()}</script></body>"
@@ -84,7 +88,10 @@ def expected(steps: List[Step], views: List[View], own: Own, here: int) -> Dict[
         "marked": [here] if here else [],
         "hash": f"#{here}",
         "groups": {f"container-{c}" for c in view.shown()} | {f"link-{p}-{o}" for p, o in pairs},
-        "disabled": {*(["first", "back"] if here == 0 else []), *(["next", "last"] if here == last else [])},
+        "disabled": {
+            *(["first", "back"] if here == 0 else []),
+            *(["next", "last"] if here == last else []),
+        },
         "record": "",
         "answer": "",
         "changes": "",
@@ -118,7 +125,13 @@ def landing(steps: List[Step], here: int, action: Action) -> int:
 
 
 def check_page(
-    session: Session, browser: str, name: str, steps: List[Step], own: Own, actions: List[Action], at: int
+    session: Session,
+    browser: str,
+    name: str,
+    steps: List[Step],
+    own: Own,
+    actions: List[Action],
+    at: int,
 ) -> None:
     """Check what the page shows after each action."""
     views = views_of(steps)
@@ -152,12 +165,24 @@ def test_pages(session: Session) -> None:
         every = [("key", "Home"), *[("key", "ArrowRight")] * (len(steps) + 1), ("key", "ArrowLeft")]
         check_page(session, browser, f"{name} by keys", steps, own, [SEE, *every], 1)
     steps, own = story_steps("rowers"), story_names("rowers")
-    clicks = [("click", name) for name in ("next", "next", "back", "last", "next", "back", "first", "back")]
-    others = [("click", "stop"), ("key", "n"), ("key", "n"), ("slide", 17), ("list", 28), ("slide", 0)]
+    clicks = [
+        ("click", name)
+        for name in ("next", "next", "back", "last", "next", "back", "first", "back")
+    ]
+    others = [
+        ("click", "stop"),
+        ("key", "n"),
+        ("key", "n"),
+        ("slide", 17),
+        ("list", 28),
+        ("slide", 0),
+    ]
     others += [("list", 1), ("key", "ArrowDown"), ("key", "ArrowUp"), ("key", "End"), ("key", "x")]
     check_page(session, browser, "rowers by clicks", steps, own, [SEE, *clicks, *others], 28)
     keys = [("key", key) for key in ("ArrowRight", "ArrowLeft", "End", "Home", "n")]
-    check_page(session, browser, "empty", [], NO_OWN, [SEE, *keys, ("click", "last"), ("slide", 0)], 0)
+    check_page(
+        session, browser, "empty", [], NO_OWN, [SEE, *keys, ("click", "last"), ("slide", 0)], 0
+    )
     crowded = list(steps_of(crowded_log()))
     check_page(session, browser, "crowded", crowded, NO_OWN, [("key", "End"), ("slide", 300)], 0)
     check_opening(session, browser, steps, own)
@@ -171,7 +196,9 @@ def check_opening(session: Session, browser: str, steps: List[Step], own: Own) -
         result = acted(browser, page, [SEE], mark)
         found = [shown["count"] for shown in result["noted"]]
         session.checks.equal(f"rowers.html{mark}", found, [f"record {wanted} of 30"])
-    session.checks.true("a page asks for nothing", not re.search("https?:|src=|@import|url\\(", page))
+    session.checks.true(
+        "a page asks for nothing", not re.search("https?:|src=|@import|url\\(", page)
+    )
 
 
 def check_long(session: Session, browser: str) -> None:

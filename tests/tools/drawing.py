@@ -142,7 +142,9 @@ def test_crowded(session: Session) -> None:
     session.checks.true("crowded: width", float(svg.get("width")) < 1200, svg.get("width"))
     texts = [text.text for text in svg.iter(f"{SVG}text")]
     for number in range(32):
-        session.checks.true(f"crowded: rule {number}", any(t.startswith(f"rule {number}:") for t in texts))
+        session.checks.true(
+            f"crowded: rule {number}", any(t.startswith(f"rule {number}:") for t in texts)
+        )
 
 
 def test_stories(session: Session) -> None:
@@ -153,7 +155,9 @@ def test_stories(session: Session) -> None:
             svg = parsed(steps, at, story_names(name))
             session.checks.equal(f"{name} at {at}: layout", list(layout_faults(svg)), [])
             texts = " ".join(text.text for text in svg.iter(f"{SVG}text"))
-            session.checks.true(f"{name} at {at}: title", f"after record {at} of {len(steps)}" in texts)
+            session.checks.true(
+                f"{name} at {at}: title", f"after record {at} of {len(steps)}" in texts
+            )
     svg = parsed([], 0)
     session.checks.equal("empty log: containers", drawn_containers(svg), set())
     session.checks.equal("empty log: layout", list(layout_faults(svg)), [])
@@ -164,7 +168,11 @@ MARKED = [
     ("start 0\nexit 0", "container-8", {"b", "process", "gone"}),
     ("start 0\nlabel container=process0 item=3", "container-8", {"k", "new"}),
     ("start 0\nlabel container=process0 item=3\nexit 0", "container-8", {"k", "gone"}),
-    ("start 0\ndevice 0 descriptor=1 device=panel\nmap-both 0 descriptor=1", "link-8-1", {"l", "new"}),
+    (
+        "start 0\ndevice 0 descriptor=1 device=panel\nmap-both 0 descriptor=1",
+        "link-8-1",
+        {"l", "new"},
+    ),
     (
         "start 0\ndevice 0 descriptor=1 device=panel\nmap-both 0 descriptor=1\nclose 0 descriptor=1\n"
         "unmap 0 container=panel",
@@ -173,8 +181,16 @@ MARKED = [
     ),
     ("forbid item=3 in=panel inhibit", "container-1", {"never"}),
     ("forbid item=3 in=panel divert=port", "container-3", {"device"}),
-    ("forbid item=3 in=panel inhibit\nlabel container=panel item=3", "container-1", {"k", "stopped"}),
-    ("start 0\ncreate 0 name=5 descriptor=0 container=24\nunlink 0 name=5", "container-24", {"gone"}),
+    (
+        "forbid item=3 in=panel inhibit\nlabel container=panel item=3",
+        "container-1",
+        {"k", "stopped"},
+    ),
+    (
+        "start 0\ncreate 0 name=5 descriptor=0 container=24\nunlink 0 name=5",
+        "container-24",
+        {"gone"},
+    ),
     ("start 0\npipe 0 descriptors=0,1 container=24", "container-8", {"new"}),
     ("start 0\npipe 0 descriptors=0,1 container=24\nclose 0 descriptor=1", "container-8", {"gone"}),
     (
@@ -197,7 +213,9 @@ def test_marks(session: Session) -> None:
             continue
         later = groups_of(parsed(steps_of_text(text + "\nexit 15"), len(steps) + 1))
         found = sorts_in(later[key]) if key in later else set()
-        session.checks.true(f"{name}, one record on", not found & {"new", "gone", "stopped"}, str(found))
+        session.checks.true(
+            f"{name}, one record on", not found & {"new", "gone", "stopped"}, str(found)
+        )
 
 
 def test_idle_devices(session: Session) -> None:
@@ -211,7 +229,9 @@ def test_idle_devices(session: Session) -> None:
         ("forbid item=1 in=panel,30 divert=port", {1, 3}),
     ]:
         steps = steps_of_text(text)
-        session.checks.equal(f"devices of '{text}'", drawn_containers(parsed(steps, len(steps))), wanted)
+        session.checks.equal(
+            f"devices of '{text}'", drawn_containers(parsed(steps, len(steps))), wanted
+        )
 
 
 def test_dot(session: Session) -> None:
@@ -275,7 +295,9 @@ def test_command(session: Session) -> None:
 def test_strange_names(session: Session) -> None:
     """Names of files and things with signs that XML and scripts know."""
     own = {("container", 8): '</script><b>&"', ("item", 1): "<!--", ("name", 5): "]]>'"}
-    steps = steps_of_text("start 0\ncreate 0 name=5 descriptor=0 container=24\nlabel container=24 item=1")
+    steps = steps_of_text(
+        "start 0\ncreate 0 name=5 descriptor=0 container=24\nlabel container=24 item=1"
+    )
     for name in ('a\x01"<&\udc80', "</title><script>"):
         ElementTree.fromstring(svg_text(steps, 3, name, own))
         text = html_text(steps, 3, name, own)

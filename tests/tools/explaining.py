@@ -35,13 +35,22 @@ SENTENCES = [
     ),
     (
         LIVE + "pipe 0 descriptors=3,4 container=25",
-        ["process 0 makes a new pipe, container 25", "- descriptors 3, 4 of process 0 lead to pipe 25"],
+        [
+            "process 0 makes a new pipe, container 25",
+            "- descriptors 3, 4 of process 0 lead to pipe 25",
+        ],
     ),
     (LIVE + "device 0 descriptor=1 device=panel", ["opens device 1 (panel) as descriptor 1"]),
     (FILE + "dup 0 from=0 to=7", ["copies descriptor 0, file 24 to descriptor 7"]),
-    (FILE + "close 0 descriptor=0", ["closes descriptor 0, file 24", "0 is closed; before: file 24"]),
+    (
+        FILE + "close 0 descriptor=0",
+        ["closes descriptor 0, file 24", "0 is closed; before: file 24"],
+    ),
     (HELD + "read 0 descriptor=0", ["reads from descriptor 0, file 24", "process 0 gained item 1"]),
-    (PANEL + "write 0 descriptor=1", ["writes to descriptor 1, device 1 (panel)", "1 (panel) gained"]),
+    (
+        PANEL + "write 0 descriptor=1",
+        ["writes to descriptor 1, device 1 (panel)", "1 (panel) gained"],
+    ),
     (HELD + "truncate 0 descriptor=0", ["truncates", "- file 24 was emptied: item 1 gone"]),
     (HELD + "map-read 0 descriptor=0", ["maps", "to read", "- link began: 24 -> process 0"]),
     (FILE + "map-both 0 descriptor=0", ["both ways", "began: process 0 -> 24", "24 -> process 0"]),
@@ -52,21 +61,42 @@ SENTENCES = [
     (FILE + "unlink 0 name=5", ["process 0 unlinks name 5", "name 5 is unbound; before: file 24"]),
     (
         FILE + "rename 0 from=5 to=6",
-        ["renames name 5 to name 6", "- name 5 is unbound; before: file 24", "- name 6 leads to file 24"],
+        [
+            "renames name 5 to name 6",
+            "- name 5 is unbound; before: file 24",
+            "- name 6 leads to file 24",
+        ],
     ),
-    (FILE + "link 0 from=5 to=6", ["makes name 6 lead where name 5 leads", "name 6 leads to file 24"]),
+    (
+        FILE + "link 0 from=5 to=6",
+        ["makes name 6 lead where name 5 leads", "name 6 leads to file 24"],
+    ),
     (
         PANEL + "fork 0 child=2",
-        ["process 0 forks process 2", "process 2 is live", "process 2 gained item 1", "descriptor 0 of process 2"],
+        [
+            "process 0 forks process 2",
+            "process 2 is live",
+            "process 2 gained item 1",
+            "descriptor 0 of process 2",
+        ],
     ),
-    (PANEL + "exit 0", ["process 0 exits", "process 0 is dead", "process 0 was emptied: item 1 gone"]),
+    (
+        PANEL + "exit 0",
+        ["process 0 exits", "process 0 is dead", "process 0 was emptied: item 1 gone"],
+    ),
     (HELD, ["item 1 comes in from outside and is given to file 24", "file 24 gained item 1"]),
     (
         HELD + "close 0 descriptor=0\nunlink 0 name=5",
         ["file 24 was emptied: item 1 gone", "file 24 is no longer in use"],
     ),
-    ("forbid item=1 in=panel divert=port", ["item 1 may not be in device 1 (panel)", "diverted to device 3"]),
-    ("separate items=1,2 inhibit", ["may hold both item 1 and item 2", "inhibited", "1 of 32 rules are held"]),
+    (
+        "forbid item=1 in=panel divert=port",
+        ["item 1 may not be in device 1 (panel)", "diverted to device 3"],
+    ),
+    (
+        "separate items=1,2 inhibit",
+        ["may hold both item 1 and item 2", "inhibited", "1 of 32 rules are held"],
+    ),
     ("confine item=1 to=24,process0 inhibit", ["item 1 may be in process 0 and container 24 only"]),
     ("forbid item=1 in=none inhibit", ["item 1 may be anywhere, for the set is empty"]),
     ("confine item=1 to=none inhibit", ["item 1 may be nowhere, for the set is empty"]),
@@ -89,10 +119,26 @@ IDLE = [
 REFUSED = [
     (LIVE + "raw 10 00", ["refused 1 (cut short)", "2 of 3 bytes", "copy the log again"]),
     (LIVE + "raw 10 0005 0100", ["refused 1 (cut short)", "5 of 8 bytes are there"]),
-    ("raw 14 0000", ["refused 2 (unknown tag)", "tag 14 hex is unknown", "known tags are 10, 11, 12 and 13 hex"]),
-    ("raw 10 0004 01000000", ["refused 3 (wrong length)", "a length of 4, and tag 10 hex has length 5"]),
-    ("raw 10 0005 1400000000", ["refused 4 (unknown kind)", "kind 20 is unknown; known ones are 1 to 19"]),
-    ("raw 12 0004 01020200", ["refused 4 (unknown kind)", "action 2 is unknown; known ones are 0, 1"]),
+    (
+        "raw 14 0000",
+        [
+            "refused 2 (unknown tag)",
+            "tag 14 hex is unknown",
+            "known tags are 10, 11, 12 and 13 hex",
+        ],
+    ),
+    (
+        "raw 10 0004 01000000",
+        ["refused 3 (wrong length)", "a length of 4, and tag 10 hex has length 5"],
+    ),
+    (
+        "raw 10 0005 1400000000",
+        ["refused 4 (unknown kind)", "kind 20 is unknown; known ones are 1 to 19"],
+    ),
+    (
+        "raw 12 0004 01020200",
+        ["refused 4 (unknown kind)", "action 2 is unknown; known ones are 0, 1"],
+    ),
     ("start 16", ["refused 5", "process 16 is out of range; numbers for start there are 0 to 15"]),
     (
         LIVE + "create 0 name=128 descriptor=0 container=23",
@@ -102,11 +148,20 @@ REFUSED = [
             "in its place this gets allow: create 0 name=0 descriptor=0 container=24",
         ],
     ),
-    ("raw 10 0005 0100000001", ["unused field 1 is out of range; the only number for start there is 0"]),
+    (
+        "raw 10 0005 0100000001",
+        ["unused field 1 is out of range; the only number for start there is 0"],
+    ),
     ("forbid item=64 in=1 inhibit", ["item 64 is out of range; items are 0 to 63"]),
-    ("forbid item=1 in=1 divert=process0", ["substitute 8 is out of range; ones for action 1 are 0 to 7, 24 to 63"]),
+    (
+        "forbid item=1 in=1 divert=process0",
+        ["substitute 8 is out of range; ones for action 1 are 0 to 7, 24 to 63"],
+    ),
     ("raw 12 0004 01020003", ["substitute 3 is out of range; the only one for action 0 is 0"]),
-    ("exit 4", ["refused 6 (dead process)", "process 4 is not live; no process is live: start one first"]),
+    (
+        "exit 4",
+        ["refused 6 (dead process)", "process 4 is not live; no process is live: start one first"],
+    ),
     (LIVE + "exit 4", ["process 4 is not live; the only live one is 0", "gets allow: exit 0"]),
     (LIVE + LIVE, ["refused 7 (taken)", "process 0 is live already; ones not live are 1 to 15"]),
     (LIVE + "fork 0 child=0", ["process 0 is live already", "gets allow: fork 0 child=1"]),
@@ -126,19 +181,30 @@ REFUSED = [
     ),
     (
         FILE + "map-both 0 descriptor=0\npipe 0 descriptors=1,2 container=24",
-        ["in use by name 5, descriptor 0 of process 0, link process 0 -> 24 and link 24 -> process 0"],
+        [
+            "in use by name 5, descriptor 0 of process 0, link process 0 -> 24 and link 24 -> process 0"
+        ],
     ),
-    (PANEL + "write 0 descriptor=2", ["refused 8 (missing)", "descriptor 2 of process 0 is closed; open ones are 0, 1"]),
+    (
+        PANEL + "write 0 descriptor=2",
+        ["refused 8 (missing)", "descriptor 2 of process 0 is closed; open ones are 0, 1"],
+    ),
     (LIVE + "read 0 descriptor=2", ["process 0 has none open: open one first"]),
     (PANEL + "truncate 0 descriptor=2", ["closed; the only open one with a file or pipe is 0"]),
     (FILE + "open 0 name=6 descriptor=1", ["name 6 is unbound; the only bound one is 5"]),
     (LIVE + "unlink 0 name=6", ["name 6 is unbound; no name is bound: create a file first"]),
-    (LIVE + "unmap 0 container=24", ["no link between process 0 and container 24; process 0 has no link at all"]),
+    (
+        LIVE + "unmap 0 container=24",
+        ["no link between process 0 and container 24; process 0 has no link at all"],
+    ),
     (
         FILE + "map-read 0 descriptor=0\nunmap 0 container=25",
         ["the only container linked with it is 24", "gets allow: unmap 0 container=24"],
     ),
-    (FILE + "label container=25 item=1", ["container 25 is not in use; containers in use are 0 to 8, 24"]),
+    (
+        FILE + "label container=25 item=1",
+        ["container 25 is not in use; containers in use are 0 to 8, 24"],
+    ),
     (
         FILE + "open 0 name=6 descriptor=0",
         [
@@ -154,13 +220,19 @@ REFUSED = [
     ("separate items=1,1 inhibit", ["both items are 1; other items are 0, 2 to 63"]),
     (
         PANEL + "truncate 0 descriptor=1",
-        ["refused 10 (no file)", "descriptor 1 leads to device 1 (panel); the only one with a file or pipe is 0"],
+        [
+            "refused 10 (no file)",
+            "descriptor 1 leads to device 1 (panel); the only one with a file or pipe is 0",
+        ],
     ),
     (
         LIVE + "device 0 descriptor=1 device=radio\ntruncate 0 descriptor=1",
         ["only a file or a pipe can be truncated, and none is open"],
     ),
-    ("separate items=1,2 inhibit\n" * 33, ["refused 11 (rules full)", "32 rules are held", "cannot be removed"]),
+    (
+        "separate items=1,2 inhibit\n" * 33,
+        ["refused 11 (rules full)", "32 rules are held", "cannot be removed"],
+    ),
     (
         PANEL + "forbid item=1 in=24,30,process0 inhibit",
         [
@@ -173,10 +245,17 @@ REFUSED = [
             "in its place this gets rule 0: forbid item=1 in=30 inhibit",
         ],
     ),
-    (HELD + "confine item=1 to=25 inhibit", ["it would be loaded with 24 in its set too", "to=24,25"]),
+    (
+        HELD + "confine item=1 to=25 inhibit",
+        ["it would be loaded with 24 in its set too", "to=24,25"],
+    ),
     (
         HELD + "label container=24 item=2\nseparate items=1,2 inhibit",
-        ["file 24 holds item 1 and item 2 now", "the way of item 2 to file 24:", "before the two items meet"],
+        [
+            "file 24 holds item 1 and item 2 now",
+            "the way of item 2 to file 24:",
+            "before the two items meet",
+        ],
     ),
 ]
 
@@ -237,7 +316,10 @@ STOPPED = [
     ),
     (
         "separate items=1,2 inhibit\n" + PANEL + "label container=process0 item=2",
-        ["process 0 would hold item 1 and item 2", "this record: it comes in from outside, by a label of process 0"],
+        [
+            "process 0 would hold item 1 and item 2",
+            "this record: it comes in from outside, by a label of process 0",
+        ],
     ),
 ]
 
@@ -261,7 +343,12 @@ def check_parts(session: Session, name: str, log: str, parts: List[str]) -> None
 
 def test_fixed_logs(session: Session) -> None:
     """Each kind, each row of the refusals, and each way to break a rule."""
-    for name, table in (("sentence", SENTENCES), ("idle", IDLE), ("refused", REFUSED), ("stopped", STOPPED)):
+    for name, table in (
+        ("sentence", SENTENCES),
+        ("idle", IDLE),
+        ("refused", REFUSED),
+        ("stopped", STOPPED),
+    ):
         for log, parts in table:
             check_parts(session, name, log, parts)
     kinds = {assemble(log.splitlines()[-1].encode())[3] for log, _ in SENTENCES}
@@ -278,17 +365,29 @@ def test_options(session: Session) -> None:
     """Which records are shown, and how."""
     log = str(LOGS / "rowers.log.txt")
     model = ("explain", log, "--model-only")
-    heads = [line for line in logtool(*model, "--only", "3,7-9,inhibit").output.splitlines() if line[:1].strip()]
+    heads = [
+        line
+        for line in logtool(*model, "--only", "3,7-9,inhibit").output.splitlines()
+        if line[:1].strip()
+    ]
     numbers = [line.split()[0] for line in heads[:-1]]
     session.checks.equal("--only", numbers, ["3", "7", "8", "9", "13", "28"])
     brief = logtool(*model, "--brief").output.splitlines()
     session.checks.equal("--brief: lines", len(brief), 31)
-    session.checks.true("--brief: the last line", brief[-1].startswith("30 records: 27 allow"), brief[-1])
+    session.checks.true(
+        "--brief: the last line", brief[-1].startswith("30 records: 27 allow"), brief[-1]
+    )
     way = logtool(*model, "--way", "26,1").output
-    good = "holds item 1" in way and "25 -> process 1 (record 9)" in way and "record 12: process 1" in way
+    good = (
+        "holds item 1" in way
+        and "25 -> process 1 (record 9)" in way
+        and "record 12: process 1" in way
+    )
     session.checks.true("--way", good, way)
     way = logtool(*model, "--way", "26,1", "--only", "11").output
-    session.checks.true("--way before", "after record 11, file 26" in way and "does not hold item 1" in way, way)
+    session.checks.true(
+        "--way before", "after record 11, file 26" in way and "does not hold item 1" in way, way
+    )
     for words, part in [
         (["--only", "0"], "'--only 0'"),
         (["--only", "31"], "records 1 to 30"),
@@ -300,9 +399,13 @@ def test_options(session: Session) -> None:
         result = logtool(*model, *words)
         good = result.status == 2 and not result.output and part in result.message
         session.checks.true(f"explain {words}", good, str(result))
-    result = logtool("explain", str(LOGS / "evaluation.log.txt"), "--model-only", "--only", "modify")
+    result = logtool(
+        "explain", str(LOGS / "evaluation.log.txt"), "--model-only", "--only", "modify"
+    )
     first = result.output.splitlines()[:1]
-    session.checks.equal("--only without a record", first, ["no record of this log is one of: modify"])
+    session.checks.equal(
+        "--only without a record", first, ["no record of this log is one of: modify"]
+    )
 
 
 def test_widths(session: Session) -> None:
@@ -316,13 +419,17 @@ def test_widths(session: Session) -> None:
 def test_empty_and_cut(session: Session) -> None:
     """An empty log, and one cut short, are explained to their ends."""
     result = logtool("explain", "-", "--model-only")
-    session.checks.equal("an empty log", result, (0, "0 records: no answers; the program was not run.\n", ""))
+    session.checks.equal(
+        "an empty log", result, (0, "0 records: no answers; the program was not run.\n", "")
+    )
     result = logtool("explain", "-", "--program", session.standin)
     session.checks.equal("an empty log, with the program", result.status, 0)
     result = logtool("explain", "-", "--model-only", data=story_log("rowers") + b"\x10\x00")
     good = "31  raw 10 00" in result.output and "refused 1 (cut short)" in result.output
     session.checks.true("cut short: explained", good, result.output[-500:])
-    good = result.status == 1 and "record 31" in result.message and "copy it again" in result.message
+    good = (
+        result.status == 1 and "record 31" in result.message and "copy it again" in result.message
+    )
     session.checks.true("cut short: said", good, str((result.status, result.message)))
 
 
@@ -334,7 +441,9 @@ def test_program(session: Session) -> None:
     for name in STORIES:
         result = logtool("explain", str(LOGS / f"{name}.log.txt"), "--program", session.runnable)
         last = result.output.splitlines()[-1]
-        session.checks.true(f"{name}: program", last.endswith("the program answers the same."), last)
+        session.checks.true(
+            f"{name}: program", last.endswith("the program answers the same."), last
+        )
         wanted = 1 if name == "run-b" else 0
         session.checks.equal(f"{name}: status", result.status, wanted)
 
@@ -358,5 +467,7 @@ def test_wrong_program(session: Session) -> None:
         fails.chmod(0o755)
         for program, part in ((str(fails), "status 7"), (str(fails) + "x", "cannot run")):
             result = logtool("explain", log, "--program", program)
-            good = result.status == 3 and part in result.message and "--model-only" in result.message
+            good = (
+                result.status == 3 and part in result.message and "--model-only" in result.message
+            )
             session.checks.true(f"a program that {part}", good and not result.output, str(result))

@@ -71,7 +71,11 @@ def hop_fault(steps: List[Step], hop: Origin, item: int) -> str:
     before, call = step.before.state, step.record
     if step.answer.word not in DONE or not isinstance(call, Call):
         return f"record {hop.record} was not done"
-    pairs = {(call.caller, step.answer.numbers[1])} if step.answer.word == "modify" else gives(call, before)
+    pairs = (
+        {(call.caller, step.answer.numbers[1])}
+        if step.answer.word == "modify"
+        else gives(call, before)
+    )
     if (hop.giver, hop.path[0]) not in pairs:
         return f"record {hop.record} gives nothing from {hop.giver} to {hop.path[0]}"
     if hop.giver is None and (call.kind, call.b) != (LABEL, item):
@@ -186,7 +190,9 @@ def advice_faults(case: Case, refusal: Refusal, choices: Choices) -> Iterator[st
             if min(numbers_of(case.state, record), default=99) <= refusal.number:
                 yield f"{record} for {test.text} is refused with {numbers_of(case.state, record)}"
         wrong = other_value(test, choices)
-        if wrong is not None and not numbers_of(case.state, replaced(case.record, test.field, wrong)):
+        if wrong is not None and not numbers_of(
+            case.state, replaced(case.record, test.field, wrong)
+        ):
             yield f"{test.text}: {wrong} would pass, and is not named"
 
 
@@ -208,7 +214,9 @@ def refusal_faults(step: Step, said: Explanation, choices: Choices) -> Iterator[
         other = Tracker()
         other.state = step.before.state
         answer, _ = other.answer_record(encode(last.mended))
-        if answer.word == "refused" or not shown[0].startswith(f"in its place this gets {answer}: "):
+        if answer.word == "refused" or not shown[0].startswith(
+            f"in its place this gets {answer}: "
+        ):
             yield f"record {step.number}: {shown[0]}, and the model answers {answer}"
 
 
@@ -221,7 +229,10 @@ def stopped_faults(step: Step, said: Explanation) -> Iterator[str]:
     text = "\n".join(line for _, line in said.why)
     if not tracker.is_broken(step.judged.state, rule) or " would hold " not in text:
         yield f"record {step.number}: {text}"
-    if f"rule {step.answer.numbers[0]} (record {step.before.loaded[step.answer.numbers[0]]}): " not in text:
+    if (
+        f"rule {step.answer.numbers[0]} (record {step.before.loaded[step.answer.numbers[0]]}): "
+        not in text
+    ):
         yield f"record {step.number}: the rule is not named: {text}"
     if text.count("the way of item") != len(rule.items) or "this record: " not in text:
         yield f"record {step.number}: the ways: {text}"
@@ -271,7 +282,9 @@ def page_faults(steps: List[Step]) -> Iterator[str]:
     scene: Dict[str, Any] = {}
     for number, (view, boxes) in enumerate(zip(views, contents)):
         scene.update(data["differences"][number])
-        shown = {key: tuple(data["elements"][n] for n in group) for key, group in scene.items() if group}
+        shown = {
+            key: tuple(data["elements"][n] for n in group) for key, group in scene.items() if group
+        }
         if shown != painter.scene(view, boxes):
             yield f"page, record {number}: another picture"
     if [record["a"].split(" (")[0] for record in data["records"]] != [str(s.answer) for s in steps]:
@@ -305,7 +318,9 @@ def test_properties(session: Session) -> None:
         counts.update(step.answer.word for step in steps)
         counts.update(f"refused {s.answer.numbers[0]}" for s in steps if s.answer.word == "refused")
         counts.update(f"kind {s.record.kind}" for s in steps if s.answer.word == "allow")
-        counts["hops"] += sum(len(chain(way)) for s in steps[-1:] for way in s.after.origins.values())
+        counts["hops"] += sum(
+            len(chain(way)) for s in steps[-1:] for way in s.after.origins.values()
+        )
         if done % PROGRESS == 0:
             session.say(f"{done} of {session.logs} logs")
     check_counts(session, counts)
@@ -327,7 +342,11 @@ def check_counts(session: Session, counts: Counter) -> None:
 def test_program(session: Session) -> None:
     """The program beside the model on a handful of logs."""
     for seed in range(session.seed, session.seed + min(PROGRAM_LOGS, session.logs)):
-        result = logtool("explain", "-", "--brief", "--program", session.runnable, data=make_log(seed))
+        result = logtool(
+            "explain", "-", "--brief", "--program", session.runnable, data=make_log(seed)
+        )
         last = result.output.splitlines()[-1:]
         good = result.status in (0, 1) and "the program answers the same." in "".join(last)
-        session.checks.true(f"the program on the log of seed {seed}", good, str((last, result.message)))
+        session.checks.true(
+            f"the program on the log of seed {seed}", good, str((last, result.message))
+        )

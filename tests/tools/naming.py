@@ -71,14 +71,22 @@ def test_words(session: Session) -> None:
     """How names stand behind numbers."""
     words = Words(GOOD_NAMES, {24: "file", 25: "pipe"})
     said = [words.container(c) for c in (0, 1, 4, 8, 9, 10, 24, 25, 26, 255)]
-    wanted = ["device 0 (network)", "device 1 (front panel)", "device 4", "process 0 (radio driver)"]
+    wanted = [
+        "device 0 (network)",
+        "device 1 (front panel)",
+        "device 4",
+        "process 0 (radio driver)",
+    ]
     wanted += ["process 1 (session)", "process 2", "file 24 (beat buffer)", "pipe 25"]
     wanted += ["container 26", "container 255"]
     session.checks.equal("words: containers", said, wanted)
     session.checks.equal("words: process 255", words.process(255), "process 255")
     session.checks.equal("words: items", words.items([3, 63]), "item 3 and item 63 (strap = 63)")
-    session.checks.equal("words: many items", words.items(range(60, 64)), "item 60, item 61, "
-                         "item 62 and item 63 (strap = 63)")
+    session.checks.equal(
+        "words: many items",
+        words.items(range(60, 64)),
+        "item 60, item 61, " "item 62 and item 63 (strap = 63)",
+    )
     session.checks.equal("words: more items", words.items(range(50, 64)), "items 50 to 63")
     session.checks.equal("words: no items", words.items([]), "nothing")
     session.checks.equal("words: name", words.name(127), "name 127 (coach's file)")
@@ -134,4 +142,3 @@ def test_stories(session: Session) -> None:
         for (sort, number), own in story_names(name).items():
             used = f"({own})" in text
             session.checks.true(f"{name}: the name of {sort} {number} is used", used, own)
-
