@@ -1,7 +1,9 @@
 """Runs of a program under valgrind: instructions, shares by function, single records, memory."""
 
+import functools
 import os
 import re
+import shutil
 import subprocess
 import sys
 import tempfile
@@ -13,6 +15,7 @@ from typing import Dict, List, NamedTuple, Sequence, Tuple
 INPUT_BUFFER = 65536  # bytes that each measured program reads its input into
 SECONDS = 300  # for one run
 CHUNK = 1 << 22  # bytes of a trace that are read at once
+ROOM = tempfile.TemporaryDirectory()  # for the copies of programs, as long as this runs
 
 
 class BadRun(Exception):
@@ -42,11 +45,17 @@ def rule_of(sides: str) -> str:
     return row(*({"l": "---", "r": "---:"}[side] for side in sides))
 
 
+@functools.lru_cache(maxsize=None)
+def kept(program: Path) -> Path:
+    """A copy of a program as it is now: it may be built anew while it is measured."""
+    return Path(shutil.copy(program, ROOM.name))
+
+
 def valgrind(options: Sequence[str], program: Path, data: bytes) -> Tuple[str, List[str]]:
     """What valgrind says of a run, and the lines that the program writes."""
     if len(data) > INPUT_BUFFER:
         raise BadRun(f"{len(data):,} bytes do not fit the input")
-    command = ["valgrind", *options, str(program)]
+    command = ["valgrind", *options, str(kept(program))]
     try:
         run = subprocess.run(command, input=data, capture_output=True, timeout=SECONDS)
     except subprocess.TimeoutExpired as error:
@@ -114,7 +123,7 @@ def executed(program: Path, data: bytes) -> array:
         given.write(data)
         given.seek(0)
         run = subprocess.Popen(
-            ["valgrind", *options, str(program)],
+            ["valgrind", *options, str(kept(program))],
             stdin=given,
             stdout=subprocess.DEVNULL,
             pass_fds=[sink],

@@ -10,7 +10,7 @@ import time
 from pathlib import Path
 from typing import Dict, List, NamedTuple, Tuple
 
-from counting import INPUT_BUFFER, BadRun, Peak, peak_of, row, rule_of, say
+from counting import INPUT_BUFFER, BadRun, Peak, kept, peak_of, row, rule_of, say
 from logcases import (
     CASES,
     CONFINING,
@@ -66,7 +66,7 @@ def timed(program: Path, file: str) -> float:
         (os.POSIX_SPAWN_OPEN, 1, os.devnull, os.O_WRONLY, 0),
     ]
     began = time.perf_counter()
-    child = os.posix_spawn(str(program), [str(program)], {}, file_actions=actions)
+    child = os.posix_spawn(program, [program], {}, file_actions=actions)
     _, status = os.waitpid(child, 0)
     seconds = time.perf_counter() - began
     if status != 0:
@@ -84,7 +84,7 @@ def interleaved(log: bytes) -> Dict[str, Times]:
         for _ in range(REPEATS):
             for program in (PROVED, BASELINE):
                 for name, file in files.items():
-                    run = timed(program.path, str(file))
+                    run = timed(kept(program.path), str(file))
                     seconds.setdefault((program.name, name), []).append(run)
     medians = {key: statistics.median(values) for key, values in seconds.items()}
     return {
@@ -201,9 +201,9 @@ def measured_machine() -> Machine:
     peaks = {program.name: measured_peak(program) for program in (PROVED, BASELINE)}
     say("measured the stack and the heap")
     own = Path(f"{BASELINE.path}.o")
-    code = Pair(executed_bytes(PROVED.path), executed_bytes(own))
+    code = Pair(executed_bytes(kept(PROVED.path)), executed_bytes(own))
     state = Pair(monitor_size(), baseline_size())
-    return Machine(wall, peaks, state, code, executed_bytes(BASELINE.path))
+    return Machine(wall, peaks, state, code, executed_bytes(kept(BASELINE.path)))
 
 
 def own_stack(found: Machine, program: Program) -> int:
