@@ -6,8 +6,8 @@ item. Marks say what the last record changed. Places are within the box.
 
 import colorsys
 from functools import lru_cache
-from typing import Dict, List, NamedTuple, Tuple
-from xml.sax.saxutils import escape, quoteattr
+from typing import Any, Dict, List, NamedTuple, Tuple
+from xml.sax.saxutils import escape
 
 import modelpath  # noqa: F401  (before the modules of the model)
 from limits import DEVICES, ITEMS, PROCESS_CONTAINERS
@@ -28,6 +28,7 @@ MARKED_WIDTH = 32
 CHIP_HEIGHT = 16
 SATURATION = 0.75
 LEAST_CONTRAST = 7.5  # of a chip with black
+CACHED = 100_000  # drawings that are kept, since boxes and tokens come again and again
 
 # Marks: what the last record did to a thing, or would have done.
 NEW = "new"
@@ -203,12 +204,12 @@ def number(value: float) -> str:
     return f"{value:.1f}".removesuffix(".0")
 
 
-def element(tag: str, text: str = "", /, **attributes: object) -> str:
-    """An SVG element; `sort` is its class."""
+def element(tag: str, text: str = "", /, **attributes: Any) -> str:
+    """An SVG element; `sort` is its class. Only the text may have signs that XML knows."""
     listed = ""
     for name, value in attributes.items():
-        said = number(value) if isinstance(value, (int, float)) else str(value)
-        listed += f" {'class' if name == 'sort' else name}={quoteattr(said)}"
+        said = value if isinstance(value, str) else number(value)
+        listed += f' {"class" if name == "sort" else name}="{said}"'
     return f"<{tag}{listed}>{escape(text)}</{tag}>" if text else f"<{tag}{listed}/>"
 
 
@@ -257,16 +258,17 @@ def chip_elements(token: Token, x: float, y: float) -> List[str]:
     return elements
 
 
-def token_elements(token: Token, x: float, y: float) -> List[str]:
+@lru_cache(maxsize=CACHED)
+def token_elements(token: Token, x: float, y: float) -> Tuple[str, ...]:
     """A token with its upper left corner at a place."""
     if token.item >= 0:
-        return chip_elements(token, x, y)
+        return tuple(chip_elements(token, x, y))
     sort = " ".join(filter(None, [token.style, token.mark]))
     said = {"sort": sort} if sort else {}
-    return [element("text", token.text, x=x, y=y + 12, **said)]
+    return (element("text", token.text, x=x, y=y + 12, **said),)
 
 
-@lru_cache(maxsize=100_000)
+@lru_cache(maxsize=CACHED)
 def draw_content(content: Content) -> Drawing:
     """The elements of a box; rows that are full go on below."""
     elements: List[str] = []

@@ -25,7 +25,7 @@ from phrases import action_text, rule_text
 from provenance import Step
 from scene import HEAD, MARGIN, Contents, Painter, Plan, Scene, contents_of, head_element
 from scene import make_plan, needed, pair_of
-from views import View, views_of
+from views import View, view_at
 from words import Words
 
 NARROWEST = 760.0
@@ -175,7 +175,7 @@ def plan_of(view: View, contents: Contents, top: float) -> Plan:
 
 def svg_text(steps: List[Step], at: int, name: str, own: Own) -> str:
     """The state after a record as SVG."""
-    view = views_of(steps[:at])[-1]
+    view = view_at(steps, at)
     contents = contents_of(view, own)
     width = max(NARROWEST, plan_of(view, contents, 0).width)
     above = head(view, len(steps), name, own, width)
@@ -218,7 +218,7 @@ def dot_box(content: Content) -> str:
 
 def dot_text(steps: List[Step], at: int, name: str, own: Own) -> str:
     """The state after a record as Graphviz dot."""
-    view = views_of(steps[:at])[-1]
+    view = view_at(steps, at)
     label = dot_string([title_text(view, len(steps), name), *rule_lines(view, own)])
     lines = [
         "digraph state {",

@@ -96,6 +96,8 @@ def routes(state: State, container: int) -> Dict[int, Tuple[int, ...]]:
 def grown(moment: Moment, after: State, number: int, call: Call, answer: Answer) -> Origins:
     """The origins after a call: what is no longer held left out, what was gained put in."""
     before = moment.state
+    if after.items == before.items:
+        return moment.origins
     origins = {key: way for key, way in moment.origins.items() if key[1] in after.items[key[0]]}
     rule = answer.numbers[0] if answer.word == "modify" else None
     for giver, target in gifts_of(call, answer, before):
@@ -113,7 +115,9 @@ def grown(moment: Moment, after: State, number: int, call: Call, answer: Answer)
 
 def moved_on(moment: Moment, after: State, number: int, call: Call, answer: Answer) -> Moment:
     """The moment after a call that was done, or that would have been."""
-    began = {link: moment.began.get(link, number) for link in after.links}
+    began = moment.began
+    if after.links != moment.state.links:
+        began = {link: began.get(link, number) for link in after.links}
     sorts = moment.sorts
     if call.kind in MADE:
         sorts = {**sorts, call.c: MADE[call.kind]}

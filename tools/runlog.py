@@ -92,9 +92,10 @@ NEXT = """Try next:
   ./runlog logs/rowers.log.txt              the same log, the program's lines alone
   ./runlog --show logs/run-b.log.txt        a write that a rule diverts, and two refusals
   ./runlog --show logs/evaluation.log.txt   copies, a move, an upload and a combination
-  tools/logtool explain logs/rowers.log.txt what each record does, and why it is stopped
+  tools/logtool explain logs/rowers.log.txt --only inhibit
+                                            why these records are stopped, in words
   tools/logtool draw logs/rowers.log.txt -o rowers.html
-                                            the log as pictures, record by record, in a browser
+                                            a page for a browser that steps through the log
   ./runlog --help                           what goes in and what comes out"""
 
 

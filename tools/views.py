@@ -97,14 +97,31 @@ def stopped_items(step: Step) -> Dict[int, FrozenSet[int]]:
     }
 
 
+def first_view() -> View:
+    """The view before the first record."""
+    moment = fresh()
+    return View(None, moment, changes_between(moment.state, moment.state), {}, {})
+
+
+def view_after(step: Step, forbidden: Dict[int, Set[int]]) -> View:
+    """The view after a record."""
+    changes = changes_between(step.before.state, step.after.state)
+    return View(step, step.after, changes, stopped_items(step), forbidden)
+
+
+def view_at(steps: List[Step], at: int) -> View:
+    """The view after so many records."""
+    if at == 0:
+        return first_view()
+    step = steps[at - 1]
+    return view_after(step, forbidden_items(step.after.state))
+
+
 def views_of(steps: Iterable[Step]) -> List[View]:
     """The views of a log: before the first record, then after each."""
-    first = fresh()
-    views = [View(None, first, changes_between(first.state, first.state), {}, {})]
+    views = [first_view()]
     for step in steps:
-        before, after = step.before.state, step.after.state
-        rules_kept = len(before.rules) == len(after.rules)
-        forbidden = views[-1].forbidden if rules_kept else forbidden_items(after)
-        changes = changes_between(before, after)
-        views.append(View(step, step.after, changes, stopped_items(step), forbidden))
+        rules_kept = len(step.before.state.rules) == len(step.after.state.rules)
+        forbidden = views[-1].forbidden if rules_kept else forbidden_items(step.after.state)
+        views.append(view_after(step, forbidden))
     return views

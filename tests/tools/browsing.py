@@ -2,8 +2,10 @@
 
 import html
 import json
+import os
 import re
 import shutil
+import signal
 import subprocess
 import tempfile
 from pathlib import Path
@@ -20,8 +22,9 @@ from scene import pair_of
 from views import View, views_of
 
 BROWSERS = ("chromium", "chromium-browser", "google-chrome")
-INSTALL = "apt-get update && apt-get install -y chromium"
-INSTALL_SECONDS = 600
+QUICK = "-o Acquire::Retries=0 -o Acquire::http::Timeout=15 -o Acquire::https::Timeout=15"
+INSTALL = f"apt-get {QUICK} update && apt-get {QUICK} install -y chromium"
+INSTALL_SECONDS = 300
 SECONDS = 120  # for a page
 ACTING = Path(__file__).resolve().parent / "acting.js"
 CATCH = (
@@ -37,17 +40,25 @@ Action = Tuple[str, Any]
 # The browser.
 
 
+def installed() -> Optional[str]:
+    """The browser, if it is there."""
+    return next(filter(None, map(shutil.which, BROWSERS)), None)
+
+
 def find_browser(session: Session) -> Optional[str]:
     """The browser, installed if it is missing; None if it cannot be had."""
-    found = next(filter(None, map(shutil.which, BROWSERS)), None)
-    if found or not shutil.which("apt-get"):
-        return found
+    if installed() or not shutil.which("apt-get"):
+        return installed()
     session.say("installing chromium")
+    quiet = {"stdout": subprocess.DEVNULL, "stderr": subprocess.DEVNULL}
+    install = subprocess.Popen(["sh", "-c", INSTALL], start_new_session=True, **quiet)
     try:
-        subprocess.run(["sh", "-c", INSTALL], capture_output=True, timeout=INSTALL_SECONDS)
+        install.wait(INSTALL_SECONDS)
     except subprocess.TimeoutExpired:
         session.say(f"installing chromium took more than {INSTALL_SECONDS} s")
-    return next(filter(None, map(shutil.which, BROWSERS)), None)
+        os.killpg(install.pid, signal.SIGTERM)
+        install.wait()
+    return installed()
 
 
 def dumped(browser: str, path: Path, mark: str = "") -> str:

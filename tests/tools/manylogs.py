@@ -22,7 +22,7 @@ from records import Call, encode, read_frame
 from report import full_lines
 from scene import Painter, all_contents, make_plan, needed, pair_of
 from tracker import State, Tracker, frame_refusals
-from views import views_of
+from views import view_at, views_of
 from words import Words
 
 RECORDS = range(20, 51)  # of a log
@@ -170,10 +170,12 @@ def numbers_of(state: State, record: Any) -> Set[int]:
     return frame_refusals(state, read_frame(encode(record)))
 
 
-def other_value(test: Any, choices: Choices) -> Optional[int]:
-    """A number that is not among the values with which a test passes."""
-    others = [value for value in range(256) if value not in test.values]
-    return choices.pick(others) if others and test.field != "containers" else None
+def other_values(test: Any, choices: Choices) -> List[int]:
+    """Numbers that are not among the values with which a test passes: the next ones, and any."""
+    if test.field == "containers":
+        return []
+    near = [test.values[0] - 1, test.values[-1] + 1, choices.below(128)]
+    return [value for value in near if value in range(256) and value not in test.values]
 
 
 def advice_faults(case: Case, refusal: Refusal, choices: Choices) -> Iterator[str]:
@@ -189,11 +191,9 @@ def advice_faults(case: Case, refusal: Refusal, choices: Choices) -> Iterator[st
             record = replaced(record, test.field, test.values[value])
             if min(numbers_of(case.state, record), default=99) <= refusal.number:
                 yield f"{record} for {test.text} is refused with {numbers_of(case.state, record)}"
-        wrong = other_value(test, choices)
-        if wrong is not None and not numbers_of(
-            case.state, replaced(case.record, test.field, wrong)
-        ):
-            yield f"{test.text}: {wrong} would pass, and is not named"
+        for value in other_values(test, choices):
+            if not numbers_of(case.state, replaced(case.record, test.field, value)):
+                yield f"{test.text}: {value} would pass, and is not named"
 
 
 def refusal_faults(step: Step, said: Explanation, choices: Choices) -> Iterator[str]:
@@ -256,7 +256,7 @@ def step_faults(step: Step, choices: Choices) -> Iterator[str]:
 def picture_faults(steps: List[Step], at: int) -> Iterator[str]:
     """What is wrong with the picture after a record."""
     svg = ElementTree.fromstring(svg_text(steps, at, "a log", NO_OWN))
-    view = views_of(steps[:at])[-1]
+    view = view_at(steps, at)
     state = view.moment.state
     drawn = drawing.drawn_containers(svg)
     wanted = {c for c in state.used() if c not in DEVICES or state.items[c]}

@@ -1,0 +1,131 @@
+"""The checks on random logs find tools that are made wrong on purpose."""
+
+from typing import Any, Callable, Dict, List, Tuple
+from unittest import mock
+
+from session import Session
+import boxes
+import changes
+import draw
+import explain
+import manylogs
+import page
+import provenance
+import views
+from limits import DESCRIPTORS, MISSING, TAKEN
+from reasons import TESTS
+
+LOGS = 60  # within which each must be found
+
+# Each makes a wrong function from the right one.
+Maker = Callable[[Callable], Callable]
+
+
+def keeps_lost_ways(right: Callable) -> Callable:
+    """Ways stay after their items are gone."""
+    return lambda moment, *rest: {**moment.origins, **right(moment, *rest)}
+
+
+def forgets_givers(right: Callable) -> Callable:
+    """A way begins at the last call that gave the item."""
+    return lambda *given: {key: way._replace(before=None) for key, way in right(*given).items()}
+
+
+def skips_links(right: Callable) -> Callable:
+    """A path has its ends only."""
+    return lambda *given: {end: (way[0], *way[1:][-1:]) for end, way in right(*given).items()}
+
+
+def renews_links(right: Callable) -> Callable:
+    """Every link is said to begin in the last record."""
+
+    def moved_on(moment: Any, after: Any, number: int, *rest: Any) -> Any:
+        made = right(moment, after, number, *rest)
+        return made._replace(began=dict.fromkeys(made.began, number))
+
+    return moved_on
+
+
+def forgets_closed(right: Callable) -> Callable:
+    """Entries that lead nowhere any more are left out."""
+    return lambda *given: {key: ends for key, ends in right(*given).items() if ends[1] is not None}
+
+
+def leaves_out_last(right: Callable) -> Callable:
+    """The last of a row is left out."""
+    return lambda *given: right(*given)[:-1]
+
+
+def promises(right: Callable) -> Callable:
+    """The record in place of a refused one is always said to be allowed."""
+
+    def mended_lines(*given: Any) -> List[Tuple[int, str]]:
+        return [(depth, text.replace("gets inhibit", "gets allow")) for depth, text in right(*given)]
+
+    return mended_lines
+
+
+def misses_groups(right: Callable) -> Callable:
+    """What is no longer there stays on the page."""
+    return lambda *given: {key: group for key, group in right(*given).items() if group}
+
+
+def crowds(right: Callable) -> Callable:
+    """Boxes are given half of their height."""
+    return lambda heights, *rest: right({c: h / 2 for c, h in heights.items()}, *rest)
+
+
+def fewer_values(right: Callable) -> Callable:
+    """The last value that would pass is left out."""
+    return lambda case: [test._replace(values=test.values[:-1]) for test in right(case)]
+
+
+def any_descriptor(right: Callable) -> Callable:
+    """Any descriptor is said to pass."""
+
+    def missing(case: Any) -> List:
+        tests = right(case)
+        return [t._replace(values=DESCRIPTORS) if "closed" in t.text else t for t in tests]
+
+    return missing
+
+
+# What is replaced, and by what.
+WRONG: Dict[str, Tuple[Any, str, Maker]] = {
+    "keeps the ways of what is gone": (provenance, "grown", keeps_lost_ways),
+    "forgets givers": (provenance, "grown", forgets_givers),
+    "skips links": (provenance, "routes", skips_links),
+    "renews links": (provenance, "moved_on", renews_links),
+    "forgets closed entries": (changes, "moves", forgets_closed),
+    "does not say the last change": (explain, "change_lines", leaves_out_last),
+    "promises to allow": (explain, "mended_lines", promises),
+    "hides an item": (boxes, "item_section", leaves_out_last),
+    "hides a box": (views.View, "shown", leaves_out_last),
+    "keeps groups of a page": (page, "difference", misses_groups),
+    "draws boxes over each other": (draw, "make_plan", crowds),
+}
+WRONG_TESTS: Dict[str, Tuple[int, Maker]] = {
+    "leaves out what would pass": (TAKEN, fewer_values),
+    "names what would not pass": (MISSING, any_descriptor),
+}
+
+
+def is_found() -> bool:
+    """Whether some log shows that the tools are wrong."""
+    for seed in range(1, LOGS + 1):
+        try:
+            if manylogs.log_faults(seed)[0]:
+                return True
+        except (KeyError, IndexError, RecursionError):
+            return True
+    return False
+
+
+def test_wrong_tools(session: Session) -> None:
+    """Each wrong tool is found, and the right ones are not."""
+    for name, (place, attribute, make) in WRONG.items():
+        with mock.patch.object(place, attribute, make(getattr(place, attribute))):
+            session.checks.true(f"found: a tool that {name}", is_found())
+    for name, (number, make) in WRONG_TESTS.items():
+        with mock.patch.dict(TESTS, {number: make(TESTS[number])}):
+            session.checks.true(f"found: a tool that {name}", is_found())
