@@ -34,6 +34,7 @@ CACHED = 100_000  # drawings that are kept, since boxes and tokens come again an
 NEW = "new"
 GONE = "gone"
 STOPPED = "stopped"
+DONE = "done"  # of what a call moved
 NEVER = "never"  # a forbidden item
 EMPTY = (GONE, STOPPED, NEVER)  # chips without the item's colour
 SIGNS = {NEW: "+", GONE: "\u2212", STOPPED: "!"}  # in front of an item's number
@@ -63,6 +64,12 @@ text.n{fill:#6b747c}
 .a{fill:#8a5a2b}
 .l.new{stroke:#0a7d2c;stroke-width:3}
 .a.new{fill:#0a7d2c}
+.m{fill:none;stroke-width:3}
+.m.done{stroke:#1f5fa8}
+.a.done,text.w.done{fill:#1f5fa8}
+.m.stopped{stroke:#c81e1e;stroke-dasharray:8 4}
+.a.stopped{fill:#c81e1e}
+text.w{text-anchor:middle;font-weight:bold;stroke:#fff;stroke-width:4;paint-order:stroke}
 .l.gone{stroke:#8b949c;stroke-width:2;stroke-dasharray:7 5}
 .a.gone{fill:#8b949c}
 """

@@ -8,6 +8,7 @@ from boxes import (
     CHARACTER,
     CHIP_HEIGHT,
     COLOURS,
+    DONE,
     GAP,
     GONE,
     LINE,
@@ -46,7 +47,13 @@ KEY = [
     (chip(1, STOPPED), "would break a rule here"),
     (chip(1, "", NEVER), "forbidden by a rule"),
 ]
-LINK_KEY = [("", "mapped memory: what the arrow leads to is fed"), (NEW, "new"), (GONE, "ended")]
+ARROW_KEY = [
+    ("l", "", "mapped memory: what the arrow leads to is fed"),
+    ("l", NEW, "new"),
+    ("l", GONE, "ended"),
+    ("m", DONE, "this call"),
+    ("m", STOPPED, "stopped"),
+]
 
 
 def printable(name: str) -> str:
@@ -121,13 +128,13 @@ def head(view: View, count: int, name: str, own: Own, width: float) -> Sheet:
     return sheet
 
 
-def link_key(sheet: Sheet) -> None:
+def arrow_key(sheet: Sheet) -> None:
     """What the arrows are."""
     x = float(MARGIN)
-    for mark, words in LINK_KEY:
+    for sort, mark, words in ARROW_KEY:
         y = sheet.y + CHIP_HEIGHT / 2
         line = path("M", x, y, "L", x + 34 - HEAD, y)
-        sheet.elements.append(element("path", sort=f"l {mark}".strip(), d=line))
+        sheet.elements.append(element("path", sort=f"{sort} {mark}".strip(), d=line))
         sheet.elements.append(head_element(x + 34, y, -HEAD, mark))
         sheet.elements.append(element("text", words, x=x + 34 + GAP, y=sheet.y + 12))
         x += 34 + 3 * GAP + Token(words).width
@@ -145,7 +152,7 @@ def foot(view: View, own: Own, width: float, y: float) -> Sheet:
     if named:
         sheet.row(([chip(item)], words.own_name("item", item)) for item in named)
     sheet.row(([token], meaning) for token, meaning in KEY)
-    link_key(sheet)
+    arrow_key(sheet)
     return sheet
 
 

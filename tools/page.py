@@ -90,9 +90,9 @@ def picture_data(views: List[View], own: Own) -> Dict[str, Any]:
 
 
 def drawing_order(key: str) -> Any:
-    """Links are drawn before boxes, so that boxes lie above them."""
+    """Links are drawn first, then what a call moved, then boxes."""
     sort, *numbers = key.split("-")
-    return sort != "link", [int(number) for number in numbers]
+    return ("link", "move", "container").index(sort), [int(number) for number in numbers]
 
 
 def page_data(steps: List[Step], at: int, name: str, own: Own) -> Dict[str, Any]:

@@ -124,9 +124,7 @@ def moved_on(moment: Moment, after: State, number: int, call: Call, answer: Answ
     return Moment(after, grown(moment, after, number, call, answer), began, sorts, moment.loaded)
 
 
-def next_moment(
-    moment: Moment, after: State, number: int, record: Any, answer: Answer
-) -> Moment:
+def next_moment(moment: Moment, after: State, number: int, record: Any, answer: Answer) -> Moment:
     """The moment after a record."""
     if isinstance(record, Call) and answer.word in DONE:
         return moved_on(moment, after, number, record, answer)

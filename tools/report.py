@@ -86,7 +86,7 @@ def full_report(steps: List[Step], own: Own, other: Other, width: int) -> Iterat
         yield from full_lines(explain(step, own), width, other.get(step.number))
 
 
-def brief_lines(steps: List[Step], own: Own, other: Other, _: int) -> Iterator[str]:
+def brief_report(steps: List[Step], own: Own, other: Other) -> Iterator[str]:
     """A line for each record: number, answer, the record in words."""
     said = [explain(step, own) for step in steps]
     places = max((len(str(one.number)) for one in said), default=0)

@@ -11,6 +11,7 @@ import modelpath  # noqa: F401  (before the modules of the model)
 from boxes import GONE, LINE, NEW, WIDTH, Content, content_of, draw_content, element, frame, path
 from limits import DEVICES, FILES, PROCESS_CONTAINERS
 from names import Own
+from phrases import WORD_OF_KIND
 from provenance import Link
 from views import View
 from words import Words
@@ -22,6 +23,7 @@ HEADING = 26
 ALONE = 14  # files that stand in a single column
 END_ROOM = 7  # between two links at one side of a box
 HEAD = 8  # of an arrow
+TITLE_HEIGHT = 17  # at which the arrow of a call meets a box
 
 Group = Tuple[str, ...]  # elements
 Scene = Dict[str, Group]  # by the group's name, in the order of drawing
@@ -146,12 +148,22 @@ class Painter:
             self.links[key] = link_group(self.plan, pair, marks)
         return self.links[key]
 
+    def move(self, pair: Link, mark: str, word: str) -> Group:
+        """What a call moved between two containers."""
+        key = (pair, mark, word)
+        if key not in self.links:
+            self.links[key] = move_group(self.plan, pair, mark, word)
+        return self.links[key]
+
     def scene(self, view: View, contents: Contents) -> Scene:
-        """The groups of a view: links, then boxes."""
+        """The groups of a view: links, then what the call moved, then boxes."""
         marks = view.links()
         scene: Scene = {}
         for pair in sorted({pair_of(link) for link in marks}):
             scene[f"link-{pair[0]}-{pair[1]}"] = self.link(pair, marks)
+        for pair, mark in view.moves().items():
+            word = WORD_OF_KIND[view.step.record.kind] if view.step else ""
+            scene[f"move-{pair[0]}-{pair[1]}"] = self.move(pair, mark, word)
         for container, content in contents.items():
             scene[f"container-{container}"] = self.box(content)
         return scene
@@ -174,6 +186,23 @@ def link_group(plan: Plan, pair: Link, marks: Dict[Link, str]) -> Group:
     if (left, right) in marks:
         group.append(head_element(x2, y2, -HEAD, marks[left, right]))
     return tuple(group)
+
+
+def move_group(plan: Plan, pair: Link, mark: str, word: str) -> Group:
+    """An arrow between the titles of two boxes, with the word of the call on it."""
+    (giver_x, giver_y), (target_x, target_y) = plan.places[pair[0]], plan.places[pair[1]]
+    rightward = giver_x < target_x
+    x1 = giver_x + WIDTH if rightward else giver_x
+    x2 = target_x if rightward else target_x + WIDTH
+    back = -HEAD if rightward else HEAD
+    y1, y2 = giver_y + TITLE_HEIGHT, target_y + TITLE_HEIGHT
+    half = (x1 + x2) / 2
+    curve = path("M", x1, y1, "C", half, y1, half, y2, x2 + back, y2)
+    return (
+        element("path", sort=f"m {mark}", d=curve),
+        head_element(x2, y2, back, mark),
+        element("text", word, sort=f"w {mark}", x=half, y=(y1 + y2) / 2 - 4),
+    )
 
 
 # What the boxes say.

@@ -338,6 +338,9 @@ def test_files(checks: Checks, options: Options) -> None:
         check_output(checks, ["assemble", text], b"", RUN_B_INPUT, RUN_B_FAULT)
         out = os.path.join(place, "out")
         check_bad(checks, ["assemble", bad, "-o", out], [f"{bad}, line 3: found 'opne'"])
+        for name in ("show", "explain", "draw"):
+            parts = [f"{bad}, line 3: found 'opne', expected one of: start, open"]
+            check_bad(checks, [name, bad, *COMMANDS[name]], parts)
         checks.true("nothing written after an error", not os.path.exists(out))
         check_bad(checks, ["disassemble", log, "-o", log], [log, "the input itself"])
         check_bad(checks, ["disassemble", log, "-o", place], [place, "expected a place to write"])

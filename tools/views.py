@@ -12,9 +12,9 @@ from limits import (
     PROCESS_CONTAINERS,
     process_container,
 )
-from provenance import Link, Moment, Step, fresh
+from provenance import BREAKING, DONE, Link, Moment, Step, fresh, gifts_of
 from reasons import broken_places
-from tracker import State, forbids
+from tracker import ALLOW, State, forbids
 
 
 class View(NamedTuple):
@@ -58,6 +58,21 @@ class View(NamedTuple):
         used = {c for c in state.used() if c in busy or c not in DEVICES}
         unlinked = {end for link in self.changes.unlinked for end in link}
         return sorted(used | unlinked | self.gone() | {*self.stopped})
+
+    def moves(self) -> Dict[Link, str]:
+        """Between which containers the call moved items, or would have, each with its mark."""
+        step = self.step
+        if step is None or step.answer.word not in (*DONE, *BREAKING):
+            return {}
+        call, before = step.record, step.before.state
+        found = {pair: "stopped" for pair in gifts_of(call, ALLOW, before) if step.judged}
+        if step.answer.word in DONE:
+            found.update({pair: "done" for pair in gifts_of(call, step.answer, before)})
+        return {
+            (giver, target): mark
+            for (giver, target), mark in found.items()
+            if giver is not None and not {giver, target} <= {*PROCESS_CONTAINERS}
+        }
 
     def links(self) -> Dict[Link, str]:
         """The links that are drawn, each with its mark."""

@@ -93,12 +93,15 @@ def expected(steps: List[Step], views: List[View], own: Own, here: int) -> Dict[
     last = len(steps)
     view = views[here]
     pairs = {pair_of(link) for link in view.links()}
+    groups = {f"container-{container}" for container in view.shown()}
+    groups.update(f"link-{process}-{other}" for process, other in pairs)
+    groups.update(f"move-{giver}-{target}" for giver, target in view.moves())
     shown: Dict[str, Any] = {
         "count": f"record {here} of {last}",
         "slider": here,
         "marked": [here] if here else [],
         "hash": f"#{here}",
-        "groups": {f"container-{c}" for c in view.shown()} | {f"link-{p}-{o}" for p, o in pairs},
+        "groups": groups,
         "disabled": {
             *(["first", "back"] if here == 0 else []),
             *(["next", "last"] if here == last else []),

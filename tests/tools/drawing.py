@@ -52,6 +52,12 @@ def drawn_items(svg: ElementTree.Element, container: int) -> Set[int]:
     return held
 
 
+def drawn_moves(svg: ElementTree.Element) -> Set[Tuple[int, int]]:
+    """The givers and receivers of the last call."""
+    keys = [key.split("-")[1:] for key in groups_of(svg) if key.startswith("move-")]
+    return {(int(giver), int(target)) for giver, target in keys}
+
+
 def areas_of(svg: ElementTree.Element) -> List[Area]:
     """Where the boxes stand."""
     found = []
@@ -174,8 +180,8 @@ MARKED = [
         {"l", "new"},
     ),
     (
-        "start 0\ndevice 0 descriptor=1 device=panel\nmap-both 0 descriptor=1\nclose 0 descriptor=1\n"
-        "unmap 0 container=panel",
+        "start 0\ndevice 0 descriptor=1 device=panel\nmap-both 0 descriptor=1\n"
+        "close 0 descriptor=1\nunmap 0 container=panel",
         "link-8-1",
         {"l", "gone"},
     ),
@@ -192,9 +198,27 @@ MARKED = [
         {"gone"},
     ),
     ("start 0\npipe 0 descriptors=0,1 container=24", "container-8", {"new"}),
+    (
+        "start 0\npipe 0 descriptors=0,1 container=24\nread 0 descriptor=1",
+        "move-24-8",
+        {"m", "done"},
+    ),
+    (
+        "forbid item=3 in=panel inhibit\nstart 0\nlabel container=process0 item=3\n"
+        "device 0 descriptor=1 device=panel\nwrite 0 descriptor=1",
+        "move-8-1",
+        {"m", "stopped"},
+    ),
+    (
+        "forbid item=3 in=panel divert=port\nstart 0\nlabel container=process0 item=3\n"
+        "device 0 descriptor=1 device=panel\nwrite 0 descriptor=1",
+        "move-8-3",
+        {"m", "done"},
+    ),
     ("start 0\npipe 0 descriptors=0,1 container=24\nclose 0 descriptor=1", "container-8", {"gone"}),
     (
-        "confine item=1 to=process0 inhibit\nstart 0\nlabel container=process0 item=1\nfork 0 child=3",
+        "confine item=1 to=process0 inhibit\nstart 0\nlabel container=process0 item=1\n"
+        "fork 0 child=3",
         "container-11",
         {"b", "stopped"},
     ),

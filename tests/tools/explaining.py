@@ -1,10 +1,10 @@
-"""Tests of explain: sentences, refusals, verdicts, ways, changes, and the program beside the model."""
+"""Tests of explain: sentences, refusals, verdicts, ways, changes, and the program beside it."""
 
 import tempfile
 from pathlib import Path
 from typing import List
 
-from session import LOGS, STORIES, Session, logtool, story_log
+from session import LOGS, STORIES, Result, Session, logtool, story_log
 import limits
 from explain import Explanation, explain
 from logtext import assemble
@@ -175,14 +175,16 @@ REFUSED = [
         [
             "descriptor 0 of process 0 is open and leads to file 24; closed ones are 1 to 31",
             "name 5 is bound and leads to file 24; unbound ones are 0 to 4, 6 to 127",
-            "container 24 is in use by name 5 and descriptor 0 of process 0; free ones are 25 to 63",
+            "container 24 is in use by name 5 and descriptor 0 of process 0; "
+            "free ones are 25 to 63",
             "in its place this gets allow: create 0 name=0 descriptor=1 container=25",
         ],
     ),
     (
         FILE + "map-both 0 descriptor=0\npipe 0 descriptors=1,2 container=24",
         [
-            "in use by name 5, descriptor 0 of process 0, link process 0 -> 24 and link 24 -> process 0"
+            "in use by name 5, descriptor 0 of process 0, link process 0 -> 24 and "
+            "link 24 -> process 0"
         ],
     ),
     (
@@ -264,11 +266,7 @@ DENY = "forbid item=1 in=panel inhibit\n"
 DIVERT = "forbid item=1 in=panel divert=port\n"
 NOT_IN_USE = "forbid item=1 in=panel divert=40\n"
 BOTH = "forbid item=1 in=panel divert=port\nforbid item=1 in=port inhibit\n"
-FAR = (
-    DENY
-    + HELD
-    + "device 0 descriptor=1 device=panel\nmap-both 0 descriptor=1\nstart 1\nopen 1 name=5 descriptor=0\n"
-)
+FAR = DENY + HELD + "device 0 descriptor=1 device=panel\nmap-both 0 descriptor=1\n"
 STOPPED = [
     (
         DENY + PANEL + "write 0 descriptor=1",
@@ -361,33 +359,40 @@ def test_fixed_logs(session: Session) -> None:
 # The command.
 
 
+def modelled(*words: str, name: str = "rowers") -> Result:
+    """Explain a log of logs/ without the program."""
+    return logtool("explain", str(LOGS / f"{name}.log.txt"), "--model-only", *words)
+
+
 def test_options(session: Session) -> None:
     """Which records are shown, and how."""
-    log = str(LOGS / "rowers.log.txt")
-    model = ("explain", log, "--model-only")
-    heads = [
-        line
-        for line in logtool(*model, "--only", "3,7-9,inhibit").output.splitlines()
-        if line[:1].strip()
-    ]
-    numbers = [line.split()[0] for line in heads[:-1]]
+    lines = modelled("--only", "3,7-9,inhibit").output.splitlines()
+    numbers = [line.split()[0] for line in lines[:-1] if line[:1].strip()]
     session.checks.equal("--only", numbers, ["3", "7", "8", "9", "13", "28"])
-    brief = logtool(*model, "--brief").output.splitlines()
+    lines = modelled("--only", "modify", name="evaluation").output.splitlines()
+    none = "no record of this log is one of: modify"
+    session.checks.equal("--only without a record", lines[0], none)
+    brief = modelled("--brief").output.splitlines()
     session.checks.equal("--brief: lines", len(brief), 31)
-    session.checks.true(
-        "--brief: the last line", brief[-1].startswith("30 records: 27 allow"), brief[-1]
-    )
-    way = logtool(*model, "--way", "26,1").output
-    good = (
-        "holds item 1" in way
-        and "25 -> process 1 (record 9)" in way
-        and "record 12: process 1" in way
-    )
-    session.checks.true("--way", good, way)
-    way = logtool(*model, "--way", "26,1", "--only", "11").output
-    session.checks.true(
-        "--way before", "after record 11, file 26" in way and "does not hold item 1" in way, way
-    )
+    last = "30 records: 27 allow, 1 rule, 2 inhibit; the program was not run."
+    session.checks.equal("--brief: the last line", brief[-1], last)
+
+
+def test_way(session: Session) -> None:
+    """The way of one item."""
+    way = modelled("--way", "26,1").output
+    for part in ("holds item 1", "25 -> process 1 (record 9)", "record 12: process 1"):
+        session.checks.true(f"--way: {part}", part in way, way)
+    way = modelled("--way", "26,1", "--only", "11").output
+    for part in ("after record 11, file 26", "does not hold item 1"):
+        session.checks.true(f"--way, earlier: {part}", part in way, way)
+    way = logtool("explain", "-", "--model-only", "--way", "panel,0").output
+    wanted = "after record 0, device 1 (panel) does not hold item 0; it holds nothing\n"
+    session.checks.equal("--way in an empty log", way, wanted)
+
+
+def test_bad_options(session: Session) -> None:
+    """Options that cannot be used."""
     for words, part in [
         (["--only", "0"], "'--only 0'"),
         (["--only", "31"], "records 1 to 30"),
@@ -395,23 +400,17 @@ def test_options(session: Session) -> None:
         (["--only", "denied"], "allow, rule, inhibit, modify, refused"),
         (["--way", "26"], "as in 26,1"),
         (["--way", "64,1"], "from 0 to 63"),
+        (["--way", "26,64"], "from 0 to 63"),
     ]:
-        result = logtool(*model, *words)
+        result = modelled(*words)
         good = result.status == 2 and not result.output and part in result.message
         session.checks.true(f"explain {words}", good, str(result))
-    result = logtool(
-        "explain", str(LOGS / "evaluation.log.txt"), "--model-only", "--only", "modify"
-    )
-    first = result.output.splitlines()[:1]
-    session.checks.equal(
-        "--only without a record", first, ["no record of this log is one of: modify"]
-    )
 
 
 def test_widths(session: Session) -> None:
     """Lines are at most 100 characters wide where the output is no terminal."""
     for name in STORIES:
-        text = logtool("explain", str(LOGS / f"{name}.log.txt"), "--model-only").output
+        text = modelled(name=name).output
         widest = max(map(len, text.splitlines()))
         session.checks.true(f"{name}: lines of at most 100", widest <= 100, str(widest))
 

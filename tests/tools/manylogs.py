@@ -264,6 +264,13 @@ def picture_faults(steps: List[Step], at: int) -> Iterator[str]:
         yield f"at {at}: containers {sorted(wanted ^ drawn)}"
     if drawing.drawn_links(svg) != {pair_of(link) for link in view.links()}:
         yield f"at {at}: links"
+    step = view.step
+    given = (
+        {} if step is None or step.answer.word != "allow" else gives(step.record, step.before.state)
+    )
+    inner = {pair for pair in given if pair[0] is not None and step.record.kind != FORK}
+    if step is not None and step.answer.word == "allow" and drawing.drawn_moves(svg) != inner:
+        yield f"at {at}: what the call moved"
     for fault in drawing.layout_faults(svg):
         yield f"at {at}: {fault}"
     for container in sorted(drawn):

@@ -60,7 +60,9 @@ def promises(right: Callable) -> Callable:
     """The record in place of a refused one is always said to be allowed."""
 
     def mended_lines(*given: Any) -> List[Tuple[int, str]]:
-        return [(depth, text.replace("gets inhibit", "gets allow")) for depth, text in right(*given)]
+        return [
+            (depth, text.replace("gets inhibit", "gets allow")) for depth, text in right(*given)
+        ]
 
     return mended_lines
 
