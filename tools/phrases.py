@@ -166,7 +166,7 @@ def sentence(words: Words, record: Any, state: State) -> str:
 
 def answer_meaning(words: Words, answer: Answer) -> str:
     """An answer in words."""
-    substitute = words.container(answer.numbers[-1]) if answer.numbers else ""
+    substitute = words.container(answer.numbers[1]) if answer.word == "modify" else ""
     return ANSWERS[answer.word].format(*answer.numbers, substitute=substitute)
 
 

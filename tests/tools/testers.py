@@ -56,11 +56,7 @@ def run_command(session: Session, command: str, folder: str) -> List[str]:
     """The lines that a command writes, those of standard error last."""
     words = run_words(session, command)
     run = subprocess.run(words, cwd=folder, capture_output=True, text=True, timeout=SECONDS)
-    return (
-        (run.stdout.rstrip() + "\n" + run.stderr).rstrip().splitlines()
-        if run.stderr
-        else run.stdout.rstrip().splitlines()
-    )
+    return [*run.stdout.rstrip().splitlines(), *run.stderr.rstrip().splitlines()]
 
 
 def check_pictures(session: Session, text: str, folder: str) -> None:
