@@ -54,7 +54,7 @@ def read_log(path: str) -> bytes:
 def too_long(path: str) -> str:
     """What is said of a log that is too long."""
     found = f"found more than {LOG_LIMIT} bytes, expected at most that many"
-    return f"{shown_name(path)}: {found}; a longer log gets no answers: cut it into several"
+    return f"{shown_name(path)}: {found}; a longer log gets no answers: keep its first records only"
 
 
 def cut_short(path: str, log: bytes) -> str:

@@ -125,4 +125,4 @@ def counts_text(steps: List[Step]) -> str:
     """How many records got which answer."""
     counts = Counter(step.answer.word for step in steps)
     listed = ", ".join(f"{counts[word]} {word}" for word in ANSWERS if counts[word]) or "no answers"
-    return f"{len(steps)} records: {listed}"
+    return f"{len(steps)} {'record' if len(steps) == 1 else 'records'}: {listed}"

@@ -359,7 +359,7 @@ def test_bad_commands(checks: Checks, options: Options) -> None:
         check_bad(checks, words, [modelpath.ROOT, "Is a directory", "expected a file"])
     check_bad(checks, ["assemble", "-"], ["standard input, line 1: found 'x'"], b"x\n")
     for name in ("show", "explain", "draw"):
-        parts = ["standard input", TOO_LONG, "expected at most", "cut it into several"]
+        parts = ["standard input", TOO_LONG, "expected at most", "keep its first records only"]
         check_bad(checks, [name, "-", *COMMANDS[name]], parts, bytes(limits.LOG_LIMIT + 1))
 
 
