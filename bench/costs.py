@@ -206,7 +206,7 @@ def growth_lines(found: Costs) -> List[str]:
     return lines[1:]
 
 
-def stopped_line(found: Costs) -> str:
+def stopped_text(found: Costs) -> str:
     """The stopped writes beside the same writes with no rules."""
     inhibited, diverted = (
         [f"{beside_writes(found, state, name).proved:,}" for state in STATES]

@@ -7,6 +7,7 @@ import shutil
 import subprocess
 import sys
 import tempfile
+import textwrap
 from array import array
 from collections import Counter
 from pathlib import Path
@@ -15,6 +16,7 @@ from typing import Dict, List, NamedTuple, Sequence, Tuple
 INPUT_BUFFER = 65536  # bytes that each measured program reads its input into
 SECONDS = 300  # for one run
 CHUNK = 1 << 22  # bytes of a trace that are read at once
+WIDTH = 120  # of a line of prose
 ROOM = tempfile.TemporaryDirectory()  # for the copies of programs, as long as this runs
 
 
@@ -38,6 +40,11 @@ def row(*cells: object) -> str:
     """A row of a table."""
     texts = [f"{cell:,}" if isinstance(cell, int) else str(cell) for cell in cells]
     return f"| {' | '.join(texts)} |"
+
+
+def prose(text: str) -> List[str]:
+    """A paragraph in lines as wide as those of the document."""
+    return textwrap.wrap(text, WIDTH, break_long_words=False, break_on_hyphens=False)
 
 
 def rule_of(sides: str) -> str:

@@ -11,13 +11,13 @@ from costs import (
     judgings,
     measured_costs,
     other_table,
-    stopped_line,
+    stopped_text,
 )
-from counting import Report, row, rule_of, say
+from counting import Report, prose, row, rule_of, say
 from machine import (
     Machine,
-    box_lines,
     box_table,
+    box_text,
     measured_machine,
     own_heap,
     own_stack,
@@ -124,8 +124,8 @@ def headline(figures: Figures) -> List[str]:
     wall = span([ratio.own for ratio in machine.wall.values()], 1)
     model = span([ratio.model for ratio in machine.wall.values()], 0)
     lines.append(row("Wall time of a log, start taken off", "", "", "", wall))
-    lines += ["", f"The model in Python takes {model} times the program's wall time."]
-    return [*lines, *largest_lines(figures)]
+    said = f"The model in Python takes {model} times the program's wall time."
+    return [*lines, "", *prose(f"{said} {largest_text(figures)}")]
 
 
 def span(values: List[float], digits: int) -> str:
@@ -134,11 +134,11 @@ def span(values: List[float], digits: int) -> str:
     return " to ".join(ends)
 
 
-def largest_lines(figures: Figures) -> List[str]:
+def largest_text(figures: Figures) -> str:
     """Which records are the largest."""
     found = figures.largest()
     said = [f"in the {name}: {record} ({count:,})" for name, (count, record) in found.items()]
-    return [f"The largest record found is {'; '.join(said)}."]
+    return f"The largest record found is {'; '.join(said)}."
 
 
 def record_lines(figures: Figures) -> List[str]:
@@ -157,7 +157,7 @@ def record_lines(figures: Figures) -> List[str]:
         "",
         *other_table(figures.costs),
         "",
-        stopped_line(figures.costs),
+        *prose(stopped_text(figures.costs)),
     ]
 
 
@@ -176,7 +176,7 @@ def box_part(figures: Figures) -> List[str]:
         "largest mean of a sort of random logs": figures.mixed.dearest,
     }
     table = box_table(figures.machine, means, figures.largest_pair())
-    return [*box_lines(), "", *table]
+    return [*prose(box_text()), "", *table]
 
 
 def report() -> Report:
