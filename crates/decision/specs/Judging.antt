@@ -1,6 +1,6 @@
 -- Document 01, The records: a rule from its stored fields, and whether it is broken, by the holders of each item.
 use Prim.Native.Nat.{ℕ, zero, suc, _%_}
-use mathlib.Core.Bool.{Bool, true, false, not}
+use mathlib.Core.Bool.{Bool, true, false, not, _||_}
 use mathlib.Core.List.{List}
 use lib.Dec.{ltb, eqb}
 use lib.ListN.{getD}
@@ -47,3 +47,7 @@ brokenBy h (confine i x) = not (eqb (getD h i 0 ∩ x) (getD h i 0))
 unfoldable pub firstFrom : ℕ → ℕ → (ℕ → Bool) → ℕ
 firstFrom zero k f = k
 firstFrom (suc n) k f = elim (f k) [ true ↦ k | false ↦ firstFrom n (suc k) f ]
+
+-- a call of this kind may add an item somewhere: read, write, map read, map both, fork and label
+unfoldable pub gainsBy : ℕ → Bool
+gainsBy kind = eqb kind 8 || eqb kind 9 || eqb kind 11 || eqb kind 12 || eqb kind 17 || eqb kind 19

@@ -20,6 +20,14 @@ codeOf (modify n c) = 2 + 256 * n + 65536 * c
 codeOf (rule n) = 3 + 256 * n
 codeOf (refused n) = 4 + 256 * n
 
+-- whether it is known that no rule is broken, after an answer: a call that passed was judged, and one that was stopped changed nothing
+unfoldable pub cleanAfter : Bool → Word → Bool
+cleanAfter clean allow = true
+cleanAfter clean (inhibit n) = clean
+cleanAfter clean (modify n c) = true
+cleanAfter clean (rule n) = false
+cleanAfter clean (refused n) = clean
+
 unfoldable pub codesOf : List Word → List ℕ
 codesOf [] = []
 codesOf (a ∷ rest) = codeOf a ∷ codesOf rest

@@ -4,7 +4,7 @@ ghost use mathlib.Core.List.{List};
 ghost use Rattle.flow.specs.Box.{Rule};
 ghost use Rattle.flow.specs.Rules.{broken};
 ghost use Rattle.tracker.specs.View.{tracker, view as trackerView};
-ghost use Rattle.decision.specs.Judging.{stored, conditionAt, ruleFrom, brokenBy, firstFrom, countOf};
+ghost use Rattle.decision.specs.Judging.{stored, conditionAt, ruleFrom, brokenBy, firstFrom, countOf, gainsBy};
 use crate::Monitor;
 use tracker::parts::holders_by_item;
 
@@ -13,6 +13,13 @@ pub const FORBID: u8 = 0x11;
 pub const SEPARATE: u8 = 0x12;
 
 pub const CONFINE: u8 = 0x13;
+
+// Whether a call of this kind may add an item somewhere: read, write, map read, map both, fork and label.
+pub fn gains(kind: u8) -> bool
+    ensures { λ r. ⌜ r ≡ gainsBy kind ⌝ }
+{
+    (kind == 8) | (kind == 9) | (kind == 11) | (kind == 12) | (kind == 17) | (kind == 19)
+}
 
 // Whether a condition is broken.
 pub fn breaks(holders: &[u64; 64], tag: u8, item: u8, set: u64) -> bool

@@ -1,6 +1,6 @@
 // The decision point: the rules above the tracker, verdicts, and what a record gets (document 01, What a record gets).
 mod judging;
-mod logs;
+pub mod logs;
 pub mod parts;
 mod rules;
 
@@ -17,6 +17,7 @@ use tracker::parts::saved;
 use tracker::queries::Reply;
 
 // A tracker with its rules: what document 01 calls a tracker. A rule's number is its place in the five tables.
+#[repr(C)]
 pub struct Monitor {
     tracker: Tracker,
     tags: [u8; 32],

@@ -2,11 +2,14 @@
 // handed on whole: what they mean is the tracker's own. Each function says what it does of the monitor that the parts make up.
 ghost use Prim.Native.Nat.{_%_};
 ghost use mathlib.Core.Path.{_≡_};
+ghost use mathlib.Core.Bool.{true, false};
+ghost use mathlib.Core.Option.{none};
 ghost use Rattle.flow.specs.Calls.{Call as CallOf};
+ghost use Rattle.flow.specs.Rules.{lowestBroken};
 ghost use Rattle.flow.specs.Verdicts.{stopped as stoppedBy};
 ghost use Rattle.records.specs.Reading.{aRule, outcomeOf};
 ghost use Rattle.tracker.specs.View.{tracker};
-ghost use Rattle.decision.specs.Judging.{conditionFrom, ruleFrom};
+ghost use Rattle.decision.specs.Judging.{conditionFrom, ruleFrom, gainsBy};
 ghost use Rattle.decision.specs.View.{monitor, ruleOf, view};
 ghost use Rattle.decision.specs.Logs.{Runs};
 ghost use Rattle.decision.specs.Answers.{Made, AnswersRecord, AnswersCall, Answers, Asked};
@@ -17,7 +20,9 @@ use crate::judging::FORBID;
 use crate::judging::SEPARATE;
 use crate::judging::breaks;
 use crate::judging::count;
+use crate::judging::gains;
 use crate::judging::judge;
+use crate::logs::clean_after;
 use crate::logs::code;
 use crate::logs::records_in;
 use crate::rules::unfit;
@@ -63,7 +68,7 @@ pub fn renew(
 }
 
 // Rule number k stops a call of this kind by process p: a write may be diverted, all else is inhibited. The call has tested p, and the
-// substitute was tested when the rule was loaded.
+// substitute was tested when the rule was loaded. `before` is the tracker as it lies.
 fn stop_in(
     live: &mut u64,
     items: &mut [u64; 64],
@@ -77,11 +82,12 @@ fn stop_in(
     actions: &[u8; 32],
     substitutes: &[u8; 32],
     loaded: u8,
+    before: Tracker,
     k: u8,
     kind: u8,
     p: u8,
 ) -> Answer
-    ensures { λ r. ⌜ ((q : CallOf) → Asked q kind p → Answers (monitor (tracker (now (live .entry)) (now (items .entry)) (now (feeders .entry)) (now (fed .entry)) (now (descriptors .entry)) (now (names .entry))) (now (tags .entry)) (now (ruled .entry)) (now (sets .entry)) (now (actions .entry)) (now (substitutes .entry)) loaded) (stoppedBy (view (monitor (tracker (now (live .entry)) (now (items .entry)) (now (feeders .entry)) (now (fed .entry)) (now (descriptors .entry)) (now (names .entry))) (now (tags .entry)) (now (ruled .entry)) (now (sets .entry)) (now (actions .entry)) (now (substitutes .entry)) loaded)) q k (ruleOf (monitor (tracker (now (live .entry)) (now (items .entry)) (now (feeders .entry)) (now (fed .entry)) (now (descriptors .entry)) (now (names .entry))) (now (tags .entry)) (now (ruled .entry)) (now (sets .entry)) (now (actions .entry)) (now (substitutes .entry)) loaded) (k % 32))) (record { answer = r; monitor = monitor (tracker (now (live .exit)) (now (items .exit)) (now (feeders .exit)) (now (fed .exit)) (now (descriptors .exit)) (now (names .exit))) (now (tags .entry)) (now (ruled .entry)) (now (sets .entry)) (now (actions .entry)) (now (substitutes .entry)) loaded })) ⌝ }
+    ensures { λ r. ⌜ (before ≡ tracker (now (live .entry)) (now (items .entry)) (now (feeders .entry)) (now (fed .entry)) (now (descriptors .entry)) (now (names .entry)) → (q : CallOf) → Asked q kind p → Answers (monitor (tracker (now (live .entry)) (now (items .entry)) (now (feeders .entry)) (now (fed .entry)) (now (descriptors .entry)) (now (names .entry))) (now (tags .entry)) (now (ruled .entry)) (now (sets .entry)) (now (actions .entry)) (now (substitutes .entry)) loaded) (stoppedBy (view (monitor (tracker (now (live .entry)) (now (items .entry)) (now (feeders .entry)) (now (fed .entry)) (now (descriptors .entry)) (now (names .entry))) (now (tags .entry)) (now (ruled .entry)) (now (sets .entry)) (now (actions .entry)) (now (substitutes .entry)) loaded)) q k (ruleOf (monitor (tracker (now (live .entry)) (now (items .entry)) (now (feeders .entry)) (now (fed .entry)) (now (descriptors .entry)) (now (names .entry))) (now (tags .entry)) (now (ruled .entry)) (now (sets .entry)) (now (actions .entry)) (now (substitutes .entry)) loaded) (k % 32))) (record { answer = r; monitor = monitor (tracker (now (live .exit)) (now (items .exit)) (now (feeders .exit)) (now (fed .exit)) (now (descriptors .exit)) (now (names .exit))) (now (tags .entry)) (now (ruled .entry)) (now (sets .entry)) (now (actions .entry)) (now (substitutes .entry)) loaded })) ⌝ }
 {
     let i = (k % 32) as usize;
     let to = substitutes[i] % 64;
@@ -99,7 +105,6 @@ fn stop_in(
     ) {
         return Answer::Inhibit(k);
     }
-    let before = saved(*live, items, feeders, fed, descriptors, names);
     write_to(
         live,
         items,
@@ -130,8 +135,49 @@ fn stop_in(
     Answer::Modify(k, to)
 }
 
-// A call of any five bytes: it is worked out, then judged. A call that is stopped is undone.
-pub fn call_in(
+// A call that can add no item, where no rule is broken: no rule is broken after it either, so that it is not judged.
+fn pass_in(
+    live: &mut u64,
+    items: &mut [u64; 64],
+    feeders: &mut [u64; 16],
+    fed: &mut [u64; 16],
+    descriptors: &mut [u8; 512],
+    names: &mut [u8; 128],
+    tags: &[u8; 32],
+    ruled: &[u8; 32],
+    sets: &[u64; 32],
+    actions: &[u8; 32],
+    substitutes: &[u8; 32],
+    loaded: u8,
+    kind: u8,
+    p: u8,
+    a: u8,
+    b: u8,
+    c: u8,
+) -> Answer
+    ensures { λ r. ⌜ (lowestBroken (view (monitor (tracker (now (live .entry)) (now (items .entry)) (now (feeders .entry)) (now (fed .entry)) (now (descriptors .entry)) (now (names .entry))) (now (tags .entry)) (now (ruled .entry)) (now (sets .entry)) (now (actions .entry)) (now (substitutes .entry)) loaded)) ≡ none → gainsBy kind ≡ false → AnswersCall (monitor (tracker (now (live .entry)) (now (items .entry)) (now (feeders .entry)) (now (fed .entry)) (now (descriptors .entry)) (now (names .entry))) (now (tags .entry)) (now (ruled .entry)) (now (sets .entry)) (now (actions .entry)) (now (substitutes .entry)) loaded) kind p a b c (record { answer = r; monitor = monitor (tracker (now (live .exit)) (now (items .exit)) (now (feeders .exit)) (now (fed .exit)) (now (descriptors .exit)) (now (names .exit))) (now (tags .entry)) (now (ruled .entry)) (now (sets .entry)) (now (actions .entry)) (now (substitutes .entry)) loaded })) ⌝ }
+{
+    let n = calls::call_in(
+        live,
+        items,
+        feeders,
+        fed,
+        descriptors,
+        names,
+        kind,
+        p,
+        a,
+        b,
+        c,
+    );
+    if n != 0 {
+        return Answer::Refused(n);
+    }
+    Answer::Allow
+}
+
+// A call that is worked out, then judged. A call that is stopped is undone.
+fn judge_in(
     live: &mut u64,
     items: &mut [u64; 64],
     feeders: &mut [u64; 16],
@@ -198,9 +244,119 @@ pub fn call_in(
         actions,
         substitutes,
         loaded,
+        before,
         k,
         kind,
         p,
+    )
+}
+
+// A call of any five bytes; `clean` says that no rule is broken.
+fn call_when(
+    live: &mut u64,
+    items: &mut [u64; 64],
+    feeders: &mut [u64; 16],
+    fed: &mut [u64; 16],
+    descriptors: &mut [u8; 512],
+    names: &mut [u8; 128],
+    tags: &[u8; 32],
+    ruled: &[u8; 32],
+    sets: &[u64; 32],
+    actions: &[u8; 32],
+    substitutes: &[u8; 32],
+    loaded: u8,
+    clean: bool,
+    kind: u8,
+    p: u8,
+    a: u8,
+    b: u8,
+    c: u8,
+) -> Answer
+    ensures { λ r. ⌜ ((clean ≡ true → lowestBroken (view (monitor (tracker (now (live .entry)) (now (items .entry)) (now (feeders .entry)) (now (fed .entry)) (now (descriptors .entry)) (now (names .entry))) (now (tags .entry)) (now (ruled .entry)) (now (sets .entry)) (now (actions .entry)) (now (substitutes .entry)) loaded)) ≡ none) → AnswersCall (monitor (tracker (now (live .entry)) (now (items .entry)) (now (feeders .entry)) (now (fed .entry)) (now (descriptors .entry)) (now (names .entry))) (now (tags .entry)) (now (ruled .entry)) (now (sets .entry)) (now (actions .entry)) (now (substitutes .entry)) loaded) kind p a b c (record { answer = r; monitor = monitor (tracker (now (live .exit)) (now (items .exit)) (now (feeders .exit)) (now (fed .exit)) (now (descriptors .exit)) (now (names .exit))) (now (tags .entry)) (now (ruled .entry)) (now (sets .entry)) (now (actions .entry)) (now (substitutes .entry)) loaded })) ⌝ }
+{
+    if clean & !gains(kind) {
+        return pass_in(
+            live,
+            items,
+            feeders,
+            fed,
+            descriptors,
+            names,
+            tags,
+            ruled,
+            sets,
+            actions,
+            substitutes,
+            loaded,
+            kind,
+            p,
+            a,
+            b,
+            c,
+        );
+    }
+    judge_in(
+        live,
+        items,
+        feeders,
+        fed,
+        descriptors,
+        names,
+        tags,
+        ruled,
+        sets,
+        actions,
+        substitutes,
+        loaded,
+        kind,
+        p,
+        a,
+        b,
+        c,
+    )
+}
+
+// What a call of any five bytes gets.
+pub fn call_in(
+    live: &mut u64,
+    items: &mut [u64; 64],
+    feeders: &mut [u64; 16],
+    fed: &mut [u64; 16],
+    descriptors: &mut [u8; 512],
+    names: &mut [u8; 128],
+    tags: &[u8; 32],
+    ruled: &[u8; 32],
+    sets: &[u64; 32],
+    actions: &[u8; 32],
+    substitutes: &[u8; 32],
+    loaded: u8,
+    kind: u8,
+    p: u8,
+    a: u8,
+    b: u8,
+    c: u8,
+) -> Answer
+    ensures { λ r. ⌜ AnswersCall (monitor (tracker (now (live .entry)) (now (items .entry)) (now (feeders .entry)) (now (fed .entry)) (now (descriptors .entry)) (now (names .entry))) (now (tags .entry)) (now (ruled .entry)) (now (sets .entry)) (now (actions .entry)) (now (substitutes .entry)) loaded) kind p a b c (record { answer = r; monitor = monitor (tracker (now (live .exit)) (now (items .exit)) (now (feeders .exit)) (now (fed .exit)) (now (descriptors .exit)) (now (names .exit))) (now (tags .entry)) (now (ruled .entry)) (now (sets .entry)) (now (actions .entry)) (now (substitutes .entry)) loaded }) ⌝ }
+{
+    call_when(
+        live,
+        items,
+        feeders,
+        fed,
+        descriptors,
+        names,
+        tags,
+        ruled,
+        sets,
+        actions,
+        substitutes,
+        loaded,
+        loaded == 0,
+        kind,
+        p,
+        a,
+        b,
+        c,
     )
 }
 
@@ -252,8 +408,8 @@ fn load_in(
     Answer::Loaded(at)
 }
 
-// What the record at the front of the bytes gets.
-pub fn answer_in(
+// What the record at the front of the bytes gets; `clean` says that no rule is broken.
+fn answer_when(
     live: &mut u64,
     items: &mut [u64; 64],
     feeders: &mut [u64; 16],
@@ -266,14 +422,15 @@ pub fn answer_in(
     actions: &mut [u8; 32],
     substitutes: &mut [u8; 32],
     loaded: &mut u8,
+    clean: bool,
     bytes: &[u8],
 ) -> Answer
-    ensures { λ r. ⌜ AnswersRecord (monitor (tracker (now (live .entry)) (now (items .entry)) (now (feeders .entry)) (now (fed .entry)) (now (descriptors .entry)) (now (names .entry))) (now (tags .entry)) (now (ruled .entry)) (now (sets .entry)) (now (actions .entry)) (now (substitutes .entry)) (now (loaded .entry))) (now (bytes .entry)) (record { answer = r; monitor = monitor (tracker (now (live .exit)) (now (items .exit)) (now (feeders .exit)) (now (fed .exit)) (now (descriptors .exit)) (now (names .exit))) (now (tags .exit)) (now (ruled .exit)) (now (sets .exit)) (now (actions .exit)) (now (substitutes .exit)) (now (loaded .exit)) }) ⌝ }
+    ensures { λ r. ⌜ ((clean ≡ true → lowestBroken (view (monitor (tracker (now (live .entry)) (now (items .entry)) (now (feeders .entry)) (now (fed .entry)) (now (descriptors .entry)) (now (names .entry))) (now (tags .entry)) (now (ruled .entry)) (now (sets .entry)) (now (actions .entry)) (now (substitutes .entry)) (now (loaded .entry)))) ≡ none) → AnswersRecord (monitor (tracker (now (live .entry)) (now (items .entry)) (now (feeders .entry)) (now (fed .entry)) (now (descriptors .entry)) (now (names .entry))) (now (tags .entry)) (now (ruled .entry)) (now (sets .entry)) (now (actions .entry)) (now (substitutes .entry)) (now (loaded .entry))) (now (bytes .entry)) (record { answer = r; monitor = monitor (tracker (now (live .exit)) (now (items .exit)) (now (feeders .exit)) (now (fed .exit)) (now (descriptors .exit)) (now (names .exit))) (now (tags .exit)) (now (ruled .exit)) (now (sets .exit)) (now (actions .exit)) (now (substitutes .exit)) (now (loaded .exit)) })) ⌝ }
 {
     let record = read(bytes);
     match record {
         Record::Unreadable(n) => Answer::Refused(n),
-        Record::Call(kind, p, a, b, c) => call_in(
+        Record::Call(kind, p, a, b, c) => call_when(
             live,
             items,
             feeders,
@@ -286,6 +443,7 @@ pub fn answer_in(
             actions,
             substitutes,
             *loaded,
+            clean,
             kind,
             p,
             a,
@@ -352,6 +510,43 @@ pub fn answer_in(
     }
 }
 
+// What the record at the front of the bytes gets.
+pub fn answer_in(
+    live: &mut u64,
+    items: &mut [u64; 64],
+    feeders: &mut [u64; 16],
+    fed: &mut [u64; 16],
+    descriptors: &mut [u8; 512],
+    names: &mut [u8; 128],
+    tags: &mut [u8; 32],
+    ruled: &mut [u8; 32],
+    sets: &mut [u64; 32],
+    actions: &mut [u8; 32],
+    substitutes: &mut [u8; 32],
+    loaded: &mut u8,
+    bytes: &[u8],
+) -> Answer
+    ensures { λ r. ⌜ AnswersRecord (monitor (tracker (now (live .entry)) (now (items .entry)) (now (feeders .entry)) (now (fed .entry)) (now (descriptors .entry)) (now (names .entry))) (now (tags .entry)) (now (ruled .entry)) (now (sets .entry)) (now (actions .entry)) (now (substitutes .entry)) (now (loaded .entry))) (now (bytes .entry)) (record { answer = r; monitor = monitor (tracker (now (live .exit)) (now (items .exit)) (now (feeders .exit)) (now (fed .exit)) (now (descriptors .exit)) (now (names .exit))) (now (tags .exit)) (now (ruled .exit)) (now (sets .exit)) (now (actions .exit)) (now (substitutes .exit)) (now (loaded .exit)) }) ⌝ }
+{
+    let clean = *loaded == 0;
+    answer_when(
+        live,
+        items,
+        feeders,
+        fed,
+        descriptors,
+        names,
+        tags,
+        ruled,
+        sets,
+        actions,
+        substitutes,
+        loaded,
+        clean,
+        bytes,
+    )
+}
+
 // Answers the records of a log in order. Each answer goes to the front of `codes` as a number.
 pub fn run_in(
     live: &mut u64,
@@ -374,11 +569,13 @@ pub fn run_in(
     if codes.len() < records_in(log) {
         return Reply::Refused(13);
     }
+    // Whether it is known that no rule is broken.
+    let mut clean = *loaded == 0;
     let mut at = 0usize;
     let mut n = 0usize;
     while at < log.len() {
         let end = end_after(log, at);
-        let answer = answer_in(
+        let answer = answer_when(
             live,
             items,
             feeders,
@@ -391,8 +588,10 @@ pub fn run_in(
             actions,
             substitutes,
             loaded,
+            clean,
             &log[at..end],
         );
+        clean = clean_after(clean, answer);
         codes[n] = code(answer);
         at = end;
         n += 1;

@@ -1,22 +1,37 @@
-// The kernel's hook (document 01, The form for each place): the kernel keeps one monitor and lends it for each call; afterwards the lent
-// monitor holds the new state.
-ghost use Rattle.decision.specs.Answers.{AnswersCall};
-use decision::Answer;
-use decision::Answered;
-use decision::Monitor;
+// What a kernel links. The hook (document 01, The form for each place): the kernel keeps one monitor and lends it for each call; afterwards the
+// lent monitor holds the new state. Beside it, functions for C that change a monitor's parts where they lie.
+pub mod inplace;
 
-// The hook's work, by value.
-fn answered(m: Monitor, kind: u8, p: u8, a: u8, b: u8, c: u8) -> Answered
-    ensures { λ r. ⌜ AnswersCall m kind p a b c r ⌝ }
-{
-    m.call(kind, p, a, b, c)
+ghost use Rattle.decision.specs.Answers.{AnswersCall};
+ghost use Rattle.hook.specs.Codes.{Coded};
+use decision::Monitor;
+use decision::logs::code;
+
+// The code of an answer, and the monitor after it.
+pub struct Settled {
+    pub code: u32,
+    pub monitor: Monitor,
 }
 
-// What a call gets. A refused or inhibited call leaves the monitor as it was.
-pub fn on_call(m: &mut Monitor, kind: u8, p: u8, a: u8, b: u8, c: u8) -> Answer
-    ensures { λ r. ⌜ AnswersCall (now (m .entry)) kind p a b c (record { answer = r; monitor = now (m .exit) }) ⌝ }
+// The hook's work, by value.
+fn settled(m: Monitor, kind: u8, p: u8, a: u8, b: u8, c: u8) -> Settled
+    ensures { λ r. ⌜ Coded (AnswersCall m kind p a b c) (r .code) (r .monitor) ⌝ }
 {
-    let s = answered(*m, kind, p, a, b, c);
+    let r = m.call(kind, p, a, b, c);
+    let answer = r.answer;
+    let monitor = r.monitor;
+    Settled {
+        code: code(answer),
+        monitor,
+    }
+}
+
+// What a call gets, as its code. A refused or inhibited call leaves the monitor as it was.
+#[no_mangle]
+pub extern "C" fn pomtvia_on_call(m: &mut Monitor, kind: u8, p: u8, a: u8, b: u8, c: u8) -> u32
+    ensures { λ r. ⌜ Coded (AnswersCall (now (m .entry)) kind p a b c) r (now (m .exit)) ⌝ }
+{
+    let s = settled(*m, kind, p, a, b, c);
     *m = s.monitor;
-    s.answer
+    s.code
 }

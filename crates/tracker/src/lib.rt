@@ -22,7 +22,8 @@ ghost use Rattle.tracker.specs.Calling.{Called as CalledRight};
 use calls::call_in;
 use queries::Reply;
 
-// The state by value. The rules are kept by the layer above.
+// The state by value. The rules are kept by the layer above. Its layout is C's, for callers that keep it in their own memory.
+#[repr(C)]
 pub struct Tracker {
     live: u64,
     items: [u64; 64],

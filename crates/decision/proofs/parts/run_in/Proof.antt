@@ -1,22 +1,28 @@
 -- `run_in` answers record by record.
 use Prim.Native.Nat.{_*_, _-_, _<_, _^_}
 use native.Mathlib.Omega.{arith}
+use mathlib.Core.Path.{_≡_}
+use mathlib.Core.Bool.{true}
+use mathlib.Core.Option.{none}
 use lib.ListN.{length}
+use borrow.Author.Tests.{eqb-true}
+use Rattle.flow.specs.Rules.{lowestBroken}
 use Rattle.tracker.specs.View.{tracker}
-use Rattle.decision.specs.View.{monitor}
+use Rattle.decision.specs.View.{monitor, view}
 use Rattle.decision.proofs.LogLaws.{end-past, end-within, Running, run-start, run-room, run-more, run-end, run-refused}
+use Rattle.decision.proofs.CleanLaws.{none-loaded, clean-next}
 use borrow.Author.Needs.{needs}
 use Rattle.decision.proofs.parts.run_in.Statement.{statement}
 use Rattle.decision.proofs.parts.run_in.Tie as tie
 
 abbrev Inv-loop : tie.InvT-loop
-Inv-loop live₀ items₀ feeders₀ fed₀ descriptors₀ names₀ tags₀ ruled₀ sets₀ actions₀ substitutes₀ loaded₀ log codes₀ at₀ n₀ live items feeders fed descriptors names tags ruled sets actions substitutes loaded codes at n =
+Inv-loop live₀ items₀ feeders₀ fed₀ descriptors₀ names₀ tags₀ ruled₀ sets₀ actions₀ substitutes₀ loaded₀ log codes₀ clean₀ at₀ n₀ live items feeders fed descriptors names tags ruled sets actions substitutes loaded codes clean at n =
     Running (monitor (tracker live₀ items₀ feeders₀ fed₀ descriptors₀ names₀) tags₀ ruled₀ sets₀ actions₀ substitutes₀ loaded₀) log codes₀ (monitor (tracker live items feeders fed descriptors names) tags ruled sets actions substitutes loaded) at n codes
     × (4 * length codes₀ < 2 ^ 64)
+    × (clean ≡ true → lowestBroken (view (monitor (tracker live items feeders fed descriptors names) tags ruled sets actions substitutes loaded)) ≡ none)
 
 abbrev μ-loop : tie.MeasureT-loop
-μ-loop live₀ items₀ feeders₀ fed₀ descriptors₀ names₀ tags₀ ruled₀ sets₀ actions₀ substitutes₀ loaded₀ log codes₀ at₀ n₀ live items feeders fed descriptors names tags ruled sets actions substitutes loaded codes at n =
-    length log - at
+μ-loop live₀ items₀ feeders₀ fed₀ descriptors₀ names₀ tags₀ ruled₀ sets₀ actions₀ substitutes₀ loaded₀ log codes₀ clean₀ at₀ n₀ live items feeders fed descriptors names tags ruled sets actions substitutes loaded codes clean at n = length log - at
 
 records-in-requires : tie.Need-records-in-requires Inv-loop μ-loop
 records-in-requires c κs = search needs
@@ -25,40 +31,44 @@ returns : tie.Need-returns Inv-loop μ-loop
 returns c = run-refused _ _ _ _ (c .before .records-in .ensures) (c .if1 .taken)
 
 loop-holds : tie.Need-loop-holds Inv-loop μ-loop
-loop-holds c = (run-start _ _ _ (let z = c .if1 .left in rw (c .before .records-in .ensures) at z), search needs)
+loop-holds c = (run-start _ _ _ (let z = c .before .if1 .left in rw (c .before .before .records-in .ensures) at z), search needs, λ e. none-loaded _ (eqb-true _ 0 e))
 
 end-after-requires : tie.Need-end-after-requires Inv-loop μ-loop
 end-after-requires c κs = search needs
 
-sub-answer-in : tie.Need-sub-answer-in Inv-loop μ-loop
-sub-answer-in c = omega (arith, end-past (c .before .before .before .before .before .before .before .before .before .before .before .before .before .before .loop .inv .0 .counted) (c .before .before .before .before .before .before .before .before .before .before .before .before .before .loop-test .taken) _ (c .before .before .before .before .before .before .before .before .before .before .before .before .end-after .ensures))
+sub-answer-when : tie.Need-sub-answer-when Inv-loop μ-loop
+sub-answer-when c = omega (arith, end-past (c .before .before .before .before .before .before .before .before .before .before .before .before .before .before .loop .inv .0 .counted) (c .before .before .before .before .before .before .before .before .before .before .before .before .before .loop-test .taken) _ (c .before .before .before .before .before .before .before .before .before .before .before .before .end-after .ensures))
 
-part-answer-in-start : tie.Need-part-answer-in-start Inv-loop μ-loop
-part-answer-in-start c = omega (arith, end-past (c .before .before .before .before .before .before .before .before .before .before .before .before .before .before .loop .inv .0 .counted) (c .before .before .before .before .before .before .before .before .before .before .before .before .before .loop-test .taken) _ (c .before .before .before .before .before .before .before .before .before .before .before .before .end-after .ensures))
+part-answer-when-start : tie.Need-part-answer-when-start Inv-loop μ-loop
+part-answer-when-start c = omega (arith, end-past (c .before .before .before .before .before .before .before .before .before .before .before .before .before .before .loop .inv .0 .counted) (c .before .before .before .before .before .before .before .before .before .before .before .before .before .loop-test .taken) _ (c .before .before .before .before .before .before .before .before .before .before .before .before .end-after .ensures))
 
-part-answer-in-end : tie.Need-part-answer-in-end Inv-loop μ-loop
-part-answer-in-end c = end-within (c .before .before .before .before .before .before .before .before .before .before .before .before .before .before .loop .inv .0 .counted) (c .before .before .before .before .before .before .before .before .before .before .before .before .before .loop-test .taken) _ (c .before .before .before .before .before .before .before .before .before .before .before .before .end-after .ensures)
+part-answer-when-end : tie.Need-part-answer-when-end Inv-loop μ-loop
+part-answer-when-end c = end-within (c .before .before .before .before .before .before .before .before .before .before .before .before .before .before .loop .inv .0 .counted) (c .before .before .before .before .before .before .before .before .before .before .before .before .before .loop-test .taken) _ (c .before .before .before .before .before .before .before .before .before .before .before .before .end-after .ensures)
 
-answer-in-requires : tie.Need-answer-in-requires Inv-loop μ-loop
-answer-in-requires c κs = search needs
+answer-when-requires : tie.Need-answer-when-requires Inv-loop μ-loop
+answer-when-requires c κs = search needs
+
+clean-after-requires : tie.Need-clean-after-requires Inv-loop μ-loop
+clean-after-requires c κs = search needs
 
 code-requires : tie.Need-code-requires Inv-loop μ-loop
 code-requires c κs = search needs
 
 mul-codes : tie.Need-mul-codes Inv-loop μ-loop
-mul-codes c = omega (arith, run-room (c .before .before .before .before .before .before .before .before .before .before .before .before .before .before .before .before .before .loop .inv .0) (c .before .before .before .before .before .before .before .before .before .before .before .before .before .before .before .before .loop-test .taken) _ (c .before .before .before .before .before .before .before .before .before .before .before .before .before .before .before .end-after .ensures), c .before .before .before .before .before .before .before .before .before .before .before .before .before .before .before .before .before .loop .inv .1, c .before .before .before .before .before .before .before .before .before .before .before .before .before .before .before .before .before .loop .inv .0 .long)
+mul-codes c = omega (arith, run-room (c .before .before .before .before .before .before .before .before .before .before .before .before .before .before .before .before .before .before .loop .inv .0) (c .before .before .before .before .before .before .before .before .before .before .before .before .before .before .before .before .before .loop-test .taken) _ (c .before .before .before .before .before .before .before .before .before .before .before .before .before .before .before .before .end-after .ensures), c .before .before .before .before .before .before .before .before .before .before .before .before .before .before .before .before .before .before .loop .inv .1, c .before .before .before .before .before .before .before .before .before .before .before .before .before .before .before .before .before .before .loop .inv .0 .long)
 
 slice-write-codes : tie.Need-slice-write-codes Inv-loop μ-loop
-slice-write-codes c = run-room (c .before .before .before .before .before .before .before .before .before .before .before .before .before .before .before .before .before .loop .inv .0) (c .before .before .before .before .before .before .before .before .before .before .before .before .before .before .before .before .loop-test .taken) _ (c .before .before .before .before .before .before .before .before .before .before .before .before .before .before .before .end-after .ensures)
+slice-write-codes c = run-room (c .before .before .before .before .before .before .before .before .before .before .before .before .before .before .before .before .before .before .loop .inv .0) (c .before .before .before .before .before .before .before .before .before .before .before .before .before .before .before .before .before .loop-test .taken) _ (c .before .before .before .before .before .before .before .before .before .before .before .before .before .before .before .before .end-after .ensures)
 
 add-n : tie.Need-add-n Inv-loop μ-loop
-add-n c = omega (arith, run-room (c .before .before .before .before .before .before .before .before .before .before .before .before .before .before .before .before .before .loop .inv .0) (c .before .before .before .before .before .before .before .before .before .before .before .before .before .before .before .before .loop-test .taken) _ (c .before .before .before .before .before .before .before .before .before .before .before .before .before .before .before .end-after .ensures), c .before .before .before .before .before .before .before .before .before .before .before .before .before .before .before .before .before .loop .inv .1, c .before .before .before .before .before .before .before .before .before .before .before .before .before .before .before .before .before .loop .inv .0 .long)
+add-n c = omega (arith, run-room (c .before .before .before .before .before .before .before .before .before .before .before .before .before .before .before .before .before .before .loop .inv .0) (c .before .before .before .before .before .before .before .before .before .before .before .before .before .before .before .before .before .loop-test .taken) _ (c .before .before .before .before .before .before .before .before .before .before .before .before .before .before .before .before .end-after .ensures), c .before .before .before .before .before .before .before .before .before .before .before .before .before .before .before .before .before .before .loop .inv .1, c .before .before .before .before .before .before .before .before .before .before .before .before .before .before .before .before .before .before .loop .inv .0 .long)
 
 loop-less : tie.Need-loop-less Inv-loop μ-loop
-loop-less c = omega (arith, end-past (c .before .before .before .before .before .before .before .before .before .before .before .before .before .before .before .before .before .loop .inv .0 .counted) (c .before .before .before .before .before .before .before .before .before .before .before .before .before .before .before .before .loop-test .taken) _ (c .before .before .before .before .before .before .before .before .before .before .before .before .before .before .before .end-after .ensures), end-within (c .before .before .before .before .before .before .before .before .before .before .before .before .before .before .before .before .before .loop .inv .0 .counted) (c .before .before .before .before .before .before .before .before .before .before .before .before .before .before .before .before .loop-test .taken) _ (c .before .before .before .before .before .before .before .before .before .before .before .before .before .before .before .end-after .ensures))
+loop-less c = omega (arith, end-past (c .before .before .before .before .before .before .before .before .before .before .before .before .before .before .before .before .before .before .loop .inv .0 .counted) (c .before .before .before .before .before .before .before .before .before .before .before .before .before .before .before .before .before .loop-test .taken) _ (c .before .before .before .before .before .before .before .before .before .before .before .before .before .before .before .before .end-after .ensures), end-within (c .before .before .before .before .before .before .before .before .before .before .before .before .before .before .before .before .before .before .loop .inv .0 .counted) (c .before .before .before .before .before .before .before .before .before .before .before .before .before .before .before .before .before .loop-test .taken) _ (c .before .before .before .before .before .before .before .before .before .before .before .before .before .before .before .before .end-after .ensures))
 
 loop-again : tie.Need-loop-again Inv-loop μ-loop
-loop-again c = (run-more (c .before .before .before .before .before .before .before .before .before .before .before .before .before .before .before .before .before .loop .inv .0) (c .before .before .before .before .before .before .before .before .before .before .before .before .before .before .before .before .loop-test .taken) _ (c .before .before .before .before .before .before .before .before .before .before .before .before .before .before .before .end-after .ensures) _ (c .before .answer-in .ensures) _ (c .code .ensures), c .before .before .before .before .before .before .before .before .before .before .before .before .before .before .before .before .before .loop .inv .1)
+loop-again c =
+    (run-more (c .before .before .before .before .before .before .before .before .before .before .before .before .before .before .before .before .before .before .loop .inv .0) (c .before .before .before .before .before .before .before .before .before .before .before .before .before .before .before .before .before .loop-test .taken) _ (c .before .before .before .before .before .before .before .before .before .before .before .before .before .before .before .before .end-after .ensures) _ (c .before .before .answer-when .ensures (c .before .before .before .before .before .before .before .before .before .before .before .before .before .before .before .before .before .before .loop .inv .2)) _ (c .code .ensures), c .before .before .before .before .before .before .before .before .before .before .before .before .before .before .before .before .before .before .loop .inv .1, clean-next _ _ _ (c .before .before .answer-when .ensures (c .before .before .before .before .before .before .before .before .before .before .before .before .before .before .before .before .before .before .loop .inv .2)) _ _ (c .before .clean-after .ensures) (c .before .before .before .before .before .before .before .before .before .before .before .before .before .before .before .before .before .before .loop .inv .2))
 
 same-length : tie.Need-same-length Inv-loop μ-loop
 same-length c = search needs
@@ -76,10 +86,11 @@ run-in-spec =
     returns
     loop-holds
     end-after-requires
-    sub-answer-in
-    part-answer-in-start
-    part-answer-in-end
-    answer-in-requires
+    sub-answer-when
+    part-answer-when-start
+    part-answer-when-end
+    answer-when-requires
+    clean-after-requires
     code-requires
     mul-codes
     slice-write-codes

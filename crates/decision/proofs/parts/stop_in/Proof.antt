@@ -17,16 +17,13 @@ element-copy-out-if1 : tie.Need-element-copy-out-if1
 element-copy-out-if1 c = search needs
 
 returns : tie.Need-returns
-returns c = λ q a. inhibited-as _ _ _ (not-a-write _ _ _ _ q a (c .if1 .taken))
+returns c = λ b q a. inhibited-as _ _ _ (not-a-write _ _ _ _ q a (c .if1 .taken))
 
 in-use-requires : tie.Need-in-use-requires
 in-use-requires c κs = search needs
 
 returns-2 : tie.Need-returns-2
-returns-2 c = λ q a. inhibited-as _ _ _ (not-used _ _ _ _ q a _ (c .before .in-use .ensures) (c .if2 .taken))
-
-saved-requires : tie.Need-saved-requires
-saved-requires c κs = search needs
+returns-2 c = λ b q a. inhibited-as _ _ _ (not-used _ _ _ _ q a _ (c .before .in-use .ensures) (c .if2 .taken))
 
 write-to-requires : tie.Need-write-to-requires
 write-to-requires c κs = search needs
@@ -42,15 +39,15 @@ restore-requires c κs = search needs
 
 returns-3 : tie.Need-returns-3
 returns-3 c =
-    λ q a. inhibited-back _ _ _ (c .restore .ensures ∙ c .before .before .before .before .before .before .before .before .before .before .before .before .before .before .before .before .before .before .before .before .before .before .saved .ensures) _
-    (breaks-too _ _ _ _ q a (c .before .before .before .before .before .before .before .before .before .before .before .before .before .before .before .before .before .before .before .before .before .before .before .before .before .before .before .before .before .before .before .before .before .before .before .before .if1 .left) _ (c .before .before .before .before .before .before .before .before .before .before .before .before .before .before .before .before .before .before .before .before .before .before .before .before .before .before .before .before .before .in-use .ensures) (c .before .before .before .before .before .before .before .before .before .before .before .before .before .before .before .before .before .before .before .before .before .before .before .before .before .before .before .before .if2 .left) _ (c .before .before .before .before .before .before .before .before .before .before .before .before .before .before .before .write-to .ensures) _ _ (c .before .before .before .before .before .before .before .before .before .judge .ensures) (c .before .before .before .before .before .before .before .before .count .ensures) (c .before .before .before .before .before .before .before .if3 .taken))
+    λ b q a. inhibited-back _ _ _ (c .restore .ensures ∙ b) _
+    (breaks-too _ _ _ _ q a (c .before .before .before .before .before .before .before .before .before .before .before .before .before .before .before .before .before .before .before .before .before .before .before .before .before .before .before .before .before .before .if1 .left) _ (c .before .before .before .before .before .before .before .before .before .before .before .before .before .before .before .before .before .before .before .before .before .before .before .in-use .ensures) (c .before .before .before .before .before .before .before .before .before .before .before .before .before .before .before .before .before .before .before .before .before .before .if2 .left) _ (c .before .before .before .before .before .before .before .before .before .before .before .before .before .before .before .write-to .ensures) _ _ (c .before .before .before .before .before .before .before .before .before .judge .ensures) (c .before .before .before .before .before .before .before .before .count .ensures) (c .before .before .before .before .before .before .before .if3 .taken))
 
 returns-4 : tie.Need-returns-4
 unfolding view rulesOf ruleOf
 returns-4 c =
-    λ q a. modified-as _ _ _ _ _ _
-    (diverts _ _ _ _ q a (c .before .before .before .before .before .before .before .before .before .before .before .before .before .before .before .before .before .before .before .before .before .before .before .before .before .before .before .before .before .if1 .left) _ (c .before .before .before .before .before .before .before .before .before .before .before .before .before .before .before .before .before .before .before .before .before .before .in-use .ensures) (c .before .before .before .before .before .before .before .before .before .before .before .before .before .before .before .before .before .before .before .before .before .if2 .left) _ (c .before .before .before .before .before .before .before .before .write-to .ensures) _ _ (c .before .before .judge .ensures) (c .before .count .ensures) (c .if3 .left))
-    (diverted-to _ _ _ _ q a (c .before .before .before .before .before .before .before .before .before .before .before .before .before .before .before .before .before .before .before .before .before .before .before .before .before .before .before .before .before .if1 .left) _ (c .before .before .before .before .before .before .before .before .before .before .before .before .before .before .before .before .before .before .before .before .before .before .in-use .ensures) (c .before .before .before .before .before .before .before .before .before .before .before .before .before .before .before .before .before .before .before .before .before .if2 .left) _ (c .before .before .before .before .before .before .before .before .write-to .ensures))
+    λ b q a. modified-as _ _ _ _ _ _
+    (diverts _ _ _ _ q a (c .before .before .before .before .before .before .before .before .before .before .before .before .before .before .before .before .before .before .before .before .before .before .before .if1 .left) _ (c .before .before .before .before .before .before .before .before .before .before .before .before .before .before .before .before .in-use .ensures) (c .before .before .before .before .before .before .before .before .before .before .before .before .before .before .before .if2 .left) _ (c .before .before .before .before .before .before .before .before .write-to .ensures) _ _ (c .before .before .judge .ensures) (c .before .count .ensures) (c .if3 .left))
+    (diverted-to _ _ _ _ q a (c .before .before .before .before .before .before .before .before .before .before .before .before .before .before .before .before .before .before .before .before .before .before .before .if1 .left) _ (c .before .before .before .before .before .before .before .before .before .before .before .before .before .before .before .before .in-use .ensures) (c .before .before .before .before .before .before .before .before .before .before .before .before .before .before .before .if2 .left) _ (c .before .before .before .before .before .before .before .before .write-to .ensures))
 
 pub stop-in-spec : {M : Type 1} → statement M
 stop-in-spec =
@@ -62,7 +59,6 @@ stop-in-spec =
     returns
     in-use-requires
     returns-2
-    saved-requires
     write-to-requires
     judge-requires
     count-requires

@@ -1,0 +1,29 @@
+-- Answers in numbers, for callers in C.
+use Prim.Native.Nat.{ℕ}
+use mathlib.Core.Path.{_≡_}
+use mathlib.Core.List.{List}
+use Rattle.flow.specs.Queries.{Reply as Word, refuse, result}
+use Rattle.tracker.specs.declared.queries.Reply.{Reply}
+use Rattle.tracker.specs.Replies.{replyOf}
+use Rattle.decision.specs.declared.Monitor.{Monitor}
+use Rattle.decision.specs.declared.Answer.{Answer}
+use Rattle.decision.specs.declared.Answered.{Answered}
+use Rattle.decision.specs.Answers.{wordOf}
+use Rattle.decision.specs.Logs.{codeOf, Runs}
+
+-- n is the code of an answer that, with the monitor m, is what P promises
+pub record Coded (P : Answered → Type 0) (n : ℕ) (m : Monitor) : Type 0 where
+  pub answer : Answer
+  pub code : n ≡ codeOf (wordOf answer)
+  pub promised : P (record { answer = answer; monitor = m })
+
+-- a query's answer in two numbers: 0 and the result, or the number of the refusal, and then the lent number is as before
+unfoldable pub Given : Word → ℕ → ℕ → ℕ → Type 0
+Given (result x) before n after = (n ≡ 0) × (after ≡ x)
+Given (refuse k) before n after = (n ≡ k) × (after ≡ before)
+
+-- a log on the monitor m, its reply in two numbers
+pub record RunsGiven (m : Monitor) (log codes : List ℕ) (count n : ℕ) (m′ : Monitor) (codes′ : List ℕ) (count′ : ℕ) : Type 0 where
+  pub reply : Reply
+  pub given : Given (replyOf reply) count n count′
+  pub promised : Runs m log codes (record { reply = reply; monitor = m′ }) codes′

@@ -1,0 +1,215 @@
+/* Pomtvia: a data flow tracker for the system calls of a small box, for programs in C.
+ *
+ * Link it with libhook.a, which `rt staticlib hook` writes to target/staticlib/. The functions are proved; their contracts are in
+ * crates/hook/src/. What each promises is said here in words. Nothing is allocated and nothing is kept between calls: all state lies in
+ * a `struct pomtvia_monitor` that the caller owns.
+ *
+ * What the caller sees to, since nothing checks it:
+ *   - a monitor is made by pomtvia_new before any other function gets it. (Any other contents are safe too: every function ends and
+ *     stays within its memory; but then they stand for a state that no log has made.)
+ *   - a pointer that is passed points to as many elements as the function is told, which nothing else reads or writes during the call,
+ *     and the monitor, the log and what is written to do not overlap. An empty log may be NULL.
+ *   - two calls on one monitor do not run at the same time.
+ */
+#ifndef POMTVIA_H
+#define POMTVIA_H
+
+#include <stddef.h>
+#include <stdint.h>
+
+#ifdef __cplusplus
+extern "C" {
+#define POMTVIA_STATIC_ASSERT static_assert
+#else
+#define POMTVIA_STATIC_ASSERT _Static_assert
+#endif
+
+/* ---- numbers (document 01, The box) */
+
+#define POMTVIA_CONTAINERS 64     /* container numbers are 0 to 63 */
+#define POMTVIA_DEVICES 8         /* 0 to 7 */
+#define POMTVIA_FIRST_PROCESS 8   /* process p is container 8 + p */
+#define POMTVIA_PROCESSES 16      /* 0 to 15 */
+#define POMTVIA_FIRST_FILE 24     /* files and pipes are 24 to 63 */
+#define POMTVIA_ITEMS 64          /* item numbers are 0 to 63 */
+#define POMTVIA_NAMES 128         /* file names are 0 to 127 */
+#define POMTVIA_DESCRIPTORS 32    /* 0 to 31 in each process */
+#define POMTVIA_RULES 32          /* rule numbers are 0 to 31 */
+
+#define POMTVIA_NETWORK 0
+#define POMTVIA_PANEL 1
+#define POMTVIA_RADIO 2
+#define POMTVIA_PORT 3
+
+/* ---- records (document 01, The records): a tag byte, a two-byte length, high byte first, and the value */
+
+#define POMTVIA_TAG_CALL 0x10     /* length 5: kind, process, a, b, c */
+#define POMTVIA_TAG_FORBID 0x11   /* length 11: item, eight bytes of a set, action, substitute */
+#define POMTVIA_TAG_SEPARATE 0x12 /* length 4: two items, action, substitute */
+#define POMTVIA_TAG_CONFINE 0x13  /* length 11, as 0x11 */
+#define POMTVIA_RECORD_MAX 14     /* bytes of the longest record that is accepted */
+#define POMTVIA_LOG_MAX 65536     /* bytes of the longest log that the program takes; the library takes any */
+
+/* the most records that n bytes can hold */
+#define POMTVIA_RECORDS_IN(n) (((n) + 2) / 3)
+
+enum pomtvia_kind {
+    POMTVIA_START = 1,
+    POMTVIA_OPEN = 2,
+    POMTVIA_CREATE = 3,
+    POMTVIA_PIPE = 4,
+    POMTVIA_DEVICE = 5,
+    POMTVIA_DUP = 6,
+    POMTVIA_CLOSE = 7,
+    POMTVIA_READ = 8,
+    POMTVIA_WRITE = 9,
+    POMTVIA_TRUNCATE = 10,
+    POMTVIA_MAP_READ = 11,
+    POMTVIA_MAP_BOTH = 12,
+    POMTVIA_UNMAP = 13,
+    POMTVIA_UNLINK = 14,
+    POMTVIA_RENAME = 15,
+    POMTVIA_LINK = 16,
+    POMTVIA_FORK = 17,
+    POMTVIA_EXIT = 18,
+    POMTVIA_LABEL = 19
+};
+
+/* ---- answers (document 01, What a record gets) */
+
+/* An answer is one number. Its lowest byte is the word; the next is the rule's or the refusal's number; the next the substitute. */
+#define POMTVIA_WORD(answer) ((answer) & 0xFFu)
+#define POMTVIA_NUMBER(answer) (((answer) >> 8) & 0xFFu)
+#define POMTVIA_SUBSTITUTE(answer) (((answer) >> 16) & 0xFFu)
+
+enum pomtvia_word {
+    POMTVIA_ALLOW = 0,   /* the call's change is made */
+    POMTVIA_INHIBIT = 1, /* nothing changed; NUMBER is the lowest broken rule. A kernel turns it into EPERM */
+    POMTVIA_MODIFY = 2,  /* the write went to SUBSTITUTE instead; NUMBER is the lowest broken rule */
+    POMTVIA_RULE = 3,    /* the rule is loaded; NUMBER is its number */
+    POMTVIA_REFUSED = 4  /* nothing changed; NUMBER is the refusal's */
+};
+
+enum pomtvia_refusal {
+    POMTVIA_CUT_SHORT = 1,
+    POMTVIA_UNKNOWN_TAG = 2,
+    POMTVIA_WRONG_LENGTH = 3,
+    POMTVIA_UNKNOWN_KIND = 4,
+    POMTVIA_OUT_OF_RANGE = 5,
+    POMTVIA_DEAD_PROCESS = 6,
+    POMTVIA_TAKEN = 7,
+    POMTVIA_MISSING = 8,
+    POMTVIA_SAME_TWICE = 9,
+    POMTVIA_NO_FILE = 10,
+    POMTVIA_RULES_FULL = 11,
+    POMTVIA_BROKEN_ALREADY = 12,
+    POMTVIA_SLICE_SHORT = 13
+};
+
+/* ---- the state: which items lie where, links, descriptors, names, rules. Its fields are the library's own. */
+
+struct pomtvia_monitor {
+    uint64_t live;
+    uint64_t items[64];
+    uint64_t feeders[16];
+    uint64_t fed[16];
+    uint8_t descriptors[512];
+    uint8_t names[128];
+    uint8_t tags[32];
+    uint8_t ruled[32];
+    uint64_t sets[32];
+    uint8_t actions[32];
+    uint8_t substitutes[32];
+    uint8_t loaded;
+};
+
+#define POMTVIA_MONITOR_BYTES 1808
+POMTVIA_STATIC_ASSERT(sizeof(struct pomtvia_monitor) == POMTVIA_MONITOR_BYTES, "the library's Monitor has 1,808 bytes");
+POMTVIA_STATIC_ASSERT(offsetof(struct pomtvia_monitor, tags) == 1416, "the library's Tracker has 1,416 bytes");
+POMTVIA_STATIC_ASSERT(offsetof(struct pomtvia_monitor, loaded) == 1800, "the count of rules stands last");
+
+/* ---- the hook */
+
+/* What a call gets: its answer. The monitor holds the state after it. A refused or inhibited call leaves every byte of the monitor as it
+ * was. The monitor is copied, worked on and stored back; pomtvia_call below does the same where it lies. */
+uint32_t pomtvia_on_call(struct pomtvia_monitor *m, uint8_t kind, uint8_t process, uint8_t a, uint8_t b, uint8_t c);
+
+/* ---- the functions of the archive that the inline functions below call, on the fields one by one */
+
+void pomtvia_renew_in(uint64_t *live, uint64_t *items, uint64_t *feeders, uint64_t *fed, uint8_t *descriptors, uint8_t *names,
+                      uint8_t *tags, uint8_t *ruled, uint64_t *sets, uint8_t *actions, uint8_t *substitutes, uint8_t *loaded);
+uint32_t pomtvia_call_in(uint64_t *live, uint64_t *items, uint64_t *feeders, uint64_t *fed, uint8_t *descriptors, uint8_t *names,
+                         const uint8_t *tags, const uint8_t *ruled, const uint64_t *sets, const uint8_t *actions,
+                         const uint8_t *substitutes, uint8_t loaded, uint8_t kind, uint8_t process, uint8_t a, uint8_t b, uint8_t c);
+uint32_t pomtvia_answer_in(uint64_t *live, uint64_t *items, uint64_t *feeders, uint64_t *fed, uint8_t *descriptors, uint8_t *names,
+                           uint8_t *tags, uint8_t *ruled, uint64_t *sets, uint8_t *actions, uint8_t *substitutes, uint8_t *loaded,
+                           const uint8_t *bytes, size_t length);
+uint8_t pomtvia_run_in(uint64_t *live, uint64_t *items, uint64_t *feeders, uint64_t *fed, uint8_t *descriptors, uint8_t *names,
+                       uint8_t *tags, uint8_t *ruled, uint64_t *sets, uint8_t *actions, uint8_t *substitutes, uint8_t *loaded,
+                       const uint8_t *log, size_t length, uint32_t *codes, size_t room, uint64_t *count);
+uint8_t pomtvia_items_in(uint64_t live, const uint64_t *items, const uint64_t *feeders, const uint64_t *fed, const uint8_t *descriptors,
+                         const uint8_t *names, uint8_t container, uint64_t *set);
+uint8_t pomtvia_holders_in(uint64_t live, const uint64_t *items, const uint64_t *feeders, const uint64_t *fed, const uint8_t *descriptors,
+                           const uint8_t *names, uint8_t item, uint16_t *out, size_t room, uint64_t *count);
+
+/* The place after the record that begins at a place of a log, whole or cut short; the place itself at the log's end or behind it. */
+size_t pomtvia_next(const uint8_t *log, size_t length, size_t at);
+
+/* ---- functions on a monitor */
+
+#define POMTVIA_TRACKER_(m) &(m)->live, (m)->items, (m)->feeders, (m)->fed, (m)->descriptors, (m)->names
+#define POMTVIA_TABLES_(m) (m)->tags, (m)->ruled, (m)->sets, (m)->actions, (m)->substitutes
+#define POMTVIA_SHARED_(m) (m)->live, (m)->items, (m)->feeders, (m)->fed, (m)->descriptors, (m)->names
+
+/* Makes a fresh monitor: no live process, no rules, no items anywhere, no links, every descriptor closed, every name unbound. */
+static inline void pomtvia_new(struct pomtvia_monitor *m)
+{
+    pomtvia_renew_in(POMTVIA_TRACKER_(m), POMTVIA_TABLES_(m), &m->loaded);
+}
+
+/* As pomtvia_on_call, where the monitor lies. */
+static inline uint32_t pomtvia_call(struct pomtvia_monitor *m, uint8_t kind, uint8_t process, uint8_t a, uint8_t b, uint8_t c)
+{
+    return pomtvia_call_in(POMTVIA_TRACKER_(m), POMTVIA_TABLES_(m), m->loaded, kind, process, a, b, c);
+}
+
+/* What the record at the front of the bytes gets: a call, or a rule to load. Too few bytes are POMTVIA_CUT_SHORT. Bytes behind the record
+ * are not looked at. A refused or inhibited record leaves every byte of the monitor as it was. */
+static inline uint32_t pomtvia_answer(struct pomtvia_monitor *m, const uint8_t *bytes, size_t length)
+{
+    static const uint8_t none[1] = {0};
+    return pomtvia_answer_in(POMTVIA_TRACKER_(m), POMTVIA_TABLES_(m), &m->loaded, bytes ? bytes : none, bytes ? length : 0);
+}
+
+/* Answers the records of a log in order, each on the monitor as the one before left it. 0: the answers stand at the front of `answers`,
+ * *count is their number, and the elements behind them are as they were. POMTVIA_SLICE_SHORT: there is room for fewer answers than the log
+ * has records; the monitor, `answers` and *count are as they were. POMTVIA_RECORDS_IN(length) is always room enough. */
+static inline uint8_t pomtvia_run(struct pomtvia_monitor *m, const uint8_t *log, size_t length, uint32_t *answers, size_t room, uint64_t *count)
+{
+    static const uint8_t none[1] = {0};
+    uint32_t nowhere[1] = {0};
+    return pomtvia_run_in(POMTVIA_TRACKER_(m), POMTVIA_TABLES_(m), &m->loaded, log ? log : none, log ? length : 0,
+                          answers ? answers : nowhere, answers ? room : 0, count);
+}
+
+/* The items of a container: 0, and *set has bit i where the container may hold item i. POMTVIA_OUT_OF_RANGE where the number is above 63;
+ * then *set is as it was. */
+static inline uint8_t pomtvia_items(const struct pomtvia_monitor *m, uint8_t container, uint64_t *set)
+{
+    return pomtvia_items_in(POMTVIA_SHARED_(m), container, set);
+}
+
+/* The containers that hold an item: 0, *count is how many, and their numbers stand at the front of `out`, each once, in no stated order.
+ * POMTVIA_OUT_OF_RANGE where the item is above 63, POMTVIA_SLICE_SHORT where there is room for fewer; then `out` and *count are as they
+ * were. The elements behind the numbers always are. 64 is always room enough. */
+static inline uint8_t pomtvia_holders(const struct pomtvia_monitor *m, uint8_t item, uint16_t *out, size_t room, uint64_t *count)
+{
+    uint16_t nowhere[1] = {0};
+    return pomtvia_holders_in(POMTVIA_SHARED_(m), item, out ? out : nowhere, out ? room : 0, count);
+}
+
+#ifdef __cplusplus
+}
+#endif
+
+#endif

@@ -1,0 +1,299 @@
+//! Pomtvia for Rust: a data flow tracker for the system calls of a small box.
+//!
+//! A [`Monitor`] is a tracker with its rules. Every method is safe to call with any value: the functions behind them are proved for every
+//! monitor and all bytes, and what they ask of memory (pointers that hold as much as is said, nothing shared while it is written) follows
+//! from the types here. Nothing is allocated.
+#![no_std]
+
+mod archive;
+
+use archive as c;
+
+/// The most records that a log of `bytes` bytes can hold.
+pub const fn records_in(bytes: usize) -> usize {
+    bytes / 3 + (bytes % 3 != 0) as usize
+}
+
+/// The number of a refusal (document 01, What a record gets).
+#[derive(Clone, Copy, Debug, PartialEq, Eq)]
+pub struct Refusal(pub u8);
+
+/// What a record gets.
+#[derive(Clone, Copy, Debug, PartialEq, Eq)]
+pub enum Answer {
+    /// The call's change is made.
+    Allow,
+    /// Nothing changed: the call would break the rule of this number, the lowest.
+    Inhibit(u8),
+    /// The write would break the rule, and went to the substitute instead.
+    Modify { rule: u8, substitute: u8 },
+    /// The rule is loaded under this number.
+    Rule(u8),
+    /// Nothing changed.
+    Refused(Refusal),
+}
+
+impl Answer {
+    /// An answer from its code; `None` where the number is no code.
+    pub fn from_code(code: u32) -> Option<Answer> {
+        let [word, number, substitute, top] = code.to_le_bytes();
+        let single = substitute == 0 && top == 0;
+        match word {
+            0 if code == 0 => Some(Answer::Allow),
+            1 if single => Some(Answer::Inhibit(number)),
+            2 if top == 0 => Some(Answer::Modify { rule: number, substitute }),
+            3 if single => Some(Answer::Rule(number)),
+            4 if single => Some(Answer::Refused(Refusal(number))),
+            _ => None,
+        }
+    }
+
+    /// The answer of a code that the library gave: it gives no other number.
+    fn given(code: u32) -> Answer {
+        Answer::from_code(code).expect("the library answers with a code")
+    }
+}
+
+/// A call: its kind, the calling process, and three fields.
+#[derive(Clone, Copy, Debug, PartialEq, Eq)]
+pub struct Call {
+    pub kind: u8,
+    pub process: u8,
+    pub a: u8,
+    pub b: u8,
+    pub c: u8,
+}
+
+/// A tracker with its rules, laid out as in `pomtvia.h`.
+#[repr(C)]
+#[derive(Clone, PartialEq, Eq)]
+pub struct Monitor {
+    live: u64,
+    items: [u64; 64],
+    feeders: [u64; 16],
+    fed: [u64; 16],
+    descriptors: [u8; 512],
+    names: [u8; 128],
+    tags: [u8; 32],
+    ruled: [u8; 32],
+    sets: [u64; 32],
+    actions: [u8; 32],
+    substitutes: [u8; 32],
+    loaded: u8,
+}
+
+/// The name, place and size of each field, for tests that compare layouts.
+pub const LAYOUT: [(&str, usize, usize); 13] = layout();
+
+const fn layout() -> [(&'static str, usize, usize); 13] {
+    use core::mem::{offset_of, size_of};
+    [
+        ("live", offset_of!(Monitor, live), 8),
+        ("items", offset_of!(Monitor, items), 512),
+        ("feeders", offset_of!(Monitor, feeders), 128),
+        ("fed", offset_of!(Monitor, fed), 128),
+        ("descriptors", offset_of!(Monitor, descriptors), 512),
+        ("names", offset_of!(Monitor, names), 128),
+        ("tags", offset_of!(Monitor, tags), 32),
+        ("ruled", offset_of!(Monitor, ruled), 32),
+        ("sets", offset_of!(Monitor, sets), 256),
+        ("actions", offset_of!(Monitor, actions), 32),
+        ("substitutes", offset_of!(Monitor, substitutes), 32),
+        ("loaded", offset_of!(Monitor, loaded), 1),
+        ("all", 0, size_of::<Monitor>()),
+    ]
+}
+
+impl Default for Monitor {
+    fn default() -> Self {
+        Monitor::new()
+    }
+}
+
+/// `Err` of a refusal's number, else `value`.
+fn unless_refused<T>(refusal: u8, value: T) -> Result<T, Refusal> {
+    if refusal == 0 {
+        Ok(value)
+    } else {
+        Err(Refusal(refusal))
+    }
+}
+
+impl Monitor {
+    /// A fresh tracker: nothing live, nothing held, nothing open, no rules.
+    pub fn new() -> Monitor {
+        let mut m = Monitor {
+            live: 0,
+            items: [0; 64],
+            feeders: [0; 16],
+            fed: [0; 16],
+            descriptors: [0; 512],
+            names: [0; 128],
+            tags: [0; 32],
+            ruled: [0; 32],
+            sets: [0; 32],
+            actions: [0; 32],
+            substitutes: [0; 32],
+            loaded: 0,
+        };
+        m.renew();
+        m
+    }
+
+    /// Makes the monitor fresh again.
+    pub fn renew(&mut self) {
+        // Every reference is to a field of its own, of the size that the function takes.
+        unsafe {
+            c::pomtvia_renew_in(
+                &mut self.live,
+                &mut self.items,
+                &mut self.feeders,
+                &mut self.fed,
+                &mut self.descriptors,
+                &mut self.names,
+                &mut self.tags,
+                &mut self.ruled,
+                &mut self.sets,
+                &mut self.actions,
+                &mut self.substitutes,
+                &mut self.loaded,
+            )
+        }
+    }
+
+    /// What a call gets, by the hook: the monitor is copied, worked on and stored back.
+    pub fn on_call(&mut self, q: Call) -> Answer {
+        // The reference is to a whole monitor, whose layout is the library's.
+        Answer::given(unsafe { c::pomtvia_on_call(self, q.kind, q.process, q.a, q.b, q.c) })
+    }
+
+    /// What a call gets, worked out where the monitor lies.
+    pub fn call(&mut self, q: Call) -> Answer {
+        // As in `renew`; the tables of rules are only read.
+        Answer::given(unsafe {
+            c::pomtvia_call_in(
+                &mut self.live,
+                &mut self.items,
+                &mut self.feeders,
+                &mut self.fed,
+                &mut self.descriptors,
+                &mut self.names,
+                &self.tags,
+                &self.ruled,
+                &self.sets,
+                &self.actions,
+                &self.substitutes,
+                self.loaded,
+                q.kind,
+                q.process,
+                q.a,
+                q.b,
+                q.c,
+            )
+        })
+    }
+
+    /// What the record at the front of the bytes gets.
+    pub fn answer(&mut self, bytes: &[u8]) -> Answer {
+        // As in `renew`; the slice holds as many bytes as its length says.
+        Answer::given(unsafe {
+            c::pomtvia_answer_in(
+                &mut self.live,
+                &mut self.items,
+                &mut self.feeders,
+                &mut self.fed,
+                &mut self.descriptors,
+                &mut self.names,
+                &mut self.tags,
+                &mut self.ruled,
+                &mut self.sets,
+                &mut self.actions,
+                &mut self.substitutes,
+                &mut self.loaded,
+                bytes.as_ptr(),
+                bytes.len(),
+            )
+        })
+    }
+
+    /// Answers the records of a log in order. Their codes go to the front of `codes`, and the result is how many they are. Refused with 13
+    /// where `codes` is shorter; then nothing changes. [`records_in`] says how long is long enough.
+    pub fn run(&mut self, log: &[u8], codes: &mut [u32]) -> Result<usize, Refusal> {
+        let mut count = 0;
+        // As in `answer`; `codes` is borrowed apart from the monitor and the log.
+        let refusal = unsafe {
+            c::pomtvia_run_in(
+                &mut self.live,
+                &mut self.items,
+                &mut self.feeders,
+                &mut self.fed,
+                &mut self.descriptors,
+                &mut self.names,
+                &mut self.tags,
+                &mut self.ruled,
+                &mut self.sets,
+                &mut self.actions,
+                &mut self.substitutes,
+                &mut self.loaded,
+                log.as_ptr(),
+                log.len(),
+                codes.as_mut_ptr(),
+                codes.len(),
+                &mut count,
+            )
+        };
+        unless_refused(refusal, count as usize)
+    }
+
+    /// The items of a container, bit i for item i. Refused with 5 where the number is above 63.
+    pub fn items(&self, container: u8) -> Result<u64, Refusal> {
+        let mut set = 0;
+        // As in `renew`; the fields are only read.
+        let refusal = unsafe {
+            c::pomtvia_items_in(
+                self.live,
+                &self.items,
+                &self.feeders,
+                &self.fed,
+                &self.descriptors,
+                &self.names,
+                container,
+                &mut set,
+            )
+        };
+        unless_refused(refusal, set)
+    }
+
+    /// The containers that hold an item, at the front of `out`, each once; the result is how many. Refused with 5 where the item is above
+    /// 63, with 13 where `out` is shorter; then `out` is as it was.
+    pub fn holders(&self, item: u8, out: &mut [u16]) -> Result<usize, Refusal> {
+        let mut count = 0;
+        // As in `items`; `out` is borrowed apart from the monitor.
+        let refusal = unsafe {
+            c::pomtvia_holders_in(
+                self.live,
+                &self.items,
+                &self.feeders,
+                &self.fed,
+                &self.descriptors,
+                &self.names,
+                item,
+                out.as_mut_ptr(),
+                out.len(),
+                &mut count,
+            )
+        };
+        unless_refused(refusal, count as usize)
+    }
+}
+
+/// The place after the record at a place of a log; the place itself at the log's end or behind it.
+pub fn next(log: &[u8], at: usize) -> usize {
+    // The slice holds as many bytes as its length says.
+    unsafe { c::pomtvia_next(log.as_ptr(), log.len(), at) }
+}
+
+/// The code of a log's answers, one after the other.
+pub fn answers(codes: &[u32]) -> impl Iterator<Item = Option<Answer>> + '_ {
+    codes.iter().map(|&code| Answer::from_code(code))
+}

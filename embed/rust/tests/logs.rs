@@ -1,0 +1,135 @@
+//! Runs logs through the library, in three ways, and compares with what the program runlog writes. The folder POMTVIA_LOGS holds, for each
+//! log NAME.log, NAME.expected with the program's lines, NAME.items with a line for each container and NAME.holders with one for each item.
+use pomtvia::{answers, next, records_in, Answer, Call, Monitor, Refusal, LAYOUT};
+use std::{fs, path::PathBuf};
+
+fn cases() -> Vec<PathBuf> {
+    let folder = std::env::var("POMTVIA_LOGS").expect("POMTVIA_LOGS names the folder of logs: run tests/embed");
+    let mut found: Vec<PathBuf> = fs::read_dir(folder)
+        .expect("the folder of POMTVIA_LOGS can be read")
+        .map(|entry| entry.expect("its entries can be read").path())
+        .filter(|path| path.extension().is_some_and(|end| end == "log"))
+        .collect();
+    found.sort();
+    assert!(found.len() > 10, "there are logs");
+    found
+}
+
+fn line(answer: Answer) -> String {
+    match answer {
+        Answer::Allow => "allow\n".into(),
+        Answer::Inhibit(rule) => format!("inhibit {rule}\n"),
+        Answer::Modify { rule, substitute } => format!("modify {rule} {substitute}\n"),
+        Answer::Rule(number) => format!("rule {number}\n"),
+        Answer::Refused(Refusal(number)) => format!("refused {number}\n"),
+    }
+}
+
+/// The log at once: the lines, and the monitor after it.
+fn at_once(log: &[u8]) -> (String, Monitor) {
+    let mut m = Monitor::new();
+    let mut codes = vec![0; records_in(log.len())];
+    let n = m.run(log, &mut codes).expect("there is room");
+    (answers(&codes[..n]).map(|answer| line(answer.expect("a code"))).collect(), m)
+}
+
+/// A whole record of a call.
+fn call_of(record: &[u8]) -> Option<Call> {
+    match *record {
+        [0x10, 0, 5, kind, process, a, b, c] => Some(Call { kind, process, a, b, c }),
+        _ => None,
+    }
+}
+
+/// Record by record, calls by `by_call`.
+fn by_records(log: &[u8], by_call: impl Fn(&mut Monitor, Call) -> Answer) -> (String, Monitor) {
+    let mut m = Monitor::new();
+    let (mut lines, mut at) = (String::new(), 0);
+    while at < log.len() {
+        let end = next(log, at);
+        let record = &log[at..end];
+        lines += &line(match call_of(record) {
+            Some(call) => by_call(&mut m, call),
+            None => m.answer(record),
+        });
+        at = end;
+    }
+    (lines, m)
+}
+
+#[test]
+fn every_way_is_the_programs() {
+    for path in cases() {
+        let log = fs::read(&path).expect("a log");
+        let expected = fs::read_to_string(path.with_extension("expected")).expect("its lines");
+        let (lines, m) = at_once(&log);
+        assert_eq!(lines, expected, "{} at once", path.display());
+        for (how, (lines, n)) in [
+            ("in place", by_records(&log, Monitor::call)),
+            ("by the hook", by_records(&log, Monitor::on_call)),
+        ] {
+            assert_eq!(lines, expected, "{} {how}", path.display());
+            assert!(m == n, "{} {how}: the monitor afterwards", path.display());
+        }
+    }
+}
+
+#[test]
+fn queries_are_the_models() {
+    for path in cases() {
+        let (_, m) = at_once(&fs::read(&path).expect("a log"));
+        let mut items = String::new();
+        for c in 0..=64 {
+            items += &match m.items(c) {
+                Ok(set) => format!("{c} {set:016x}\n"),
+                Err(Refusal(n)) => format!("{c} refused {n}\n"),
+            };
+        }
+        assert_eq!(items, fs::read_to_string(path.with_extension("items")).expect("items"), "{}", path.display());
+        let mut holders = String::new();
+        for i in 0..=64 {
+            let mut out = [999; 64];
+            holders += &match m.holders(i, &mut out) {
+                Ok(n) => {
+                    assert!(out[n..].iter().all(|&x| x == 999), "elements behind keep their numbers");
+                    out[..n].sort();
+                    format!("{i}{}\n", out[..n].iter().map(|c| format!(" {c}")).collect::<String>())
+                }
+                Err(Refusal(n)) => format!("{i} refused {n}\n"),
+            };
+        }
+        assert_eq!(holders, fs::read_to_string(path.with_extension("holders")).expect("holders"), "{}", path.display());
+    }
+}
+
+#[test]
+fn short_slices_are_refused() {
+    let log = [0x10, 0, 5, 1, 0, 0, 0, 0, 0x10, 0, 5, 19, 0, 8, 3, 0];
+    let mut m = Monitor::new();
+    let mut codes = [77; 1];
+    assert_eq!(m.run(&log, &mut codes), Err(Refusal(13)));
+    assert!(codes == [77] && m == Monitor::new(), "nothing changed");
+    assert_eq!(m.run(&log, &mut [0; 2]), Ok(2));
+    assert_eq!(m.run(&[], &mut []), Ok(0));
+    assert_eq!(m.answer(&[]), Answer::Refused(Refusal(1)));
+    assert_eq!(m.items(8), Ok(8));
+    assert_eq!(m.holders(3, &mut []), Err(Refusal(13)));
+    assert_eq!(m.holders(4, &mut []), Ok(0));
+    m.renew();
+    assert!(m == Monitor::new(), "fresh again");
+}
+
+#[test]
+fn no_other_codes() {
+    assert_eq!(Answer::from_code(5), None);
+    assert_eq!(Answer::from_code(1 << 16 | 1), None);
+    assert_eq!(Answer::from_code(3 << 16 | 7 << 8 | 2), Some(Answer::Modify { rule: 7, substitute: 3 }));
+}
+
+/// Prints the layout for tests/embed to compare: `cargo test -- --nocapture layout`.
+#[test]
+fn layout() {
+    for (name, place, size) in LAYOUT {
+        println!("layout {name} {place} {size}");
+    }
+}
