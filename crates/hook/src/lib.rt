@@ -14,7 +14,7 @@ pub struct Settled {
 }
 
 // The hook's work, by value.
-fn settled(m: Monitor, kind: u8, p: u8, a: u8, b: u8, c: u8) -> Settled
+fn on_value(m: Monitor, kind: u8, p: u8, a: u8, b: u8, c: u8) -> Settled
     ensures { λ r. ⌜ Coded (AnswersCall m kind p a b c) (r .code) (r .monitor) ⌝ }
 {
     let r = m.call(kind, p, a, b, c);
@@ -31,7 +31,7 @@ fn settled(m: Monitor, kind: u8, p: u8, a: u8, b: u8, c: u8) -> Settled
 pub extern "C" fn pomtvia_on_call(m: &mut Monitor, kind: u8, p: u8, a: u8, b: u8, c: u8) -> u32
     ensures { λ r. ⌜ Coded (AnswersCall (now (m .entry)) kind p a b c) r (now (m .exit)) ⌝ }
 {
-    let s = settled(*m, kind, p, a, b, c);
+    let s = on_value(*m, kind, p, a, b, c);
     *m = s.monitor;
     s.code
 }

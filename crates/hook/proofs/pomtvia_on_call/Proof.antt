@@ -1,5 +1,5 @@
--- `hook::pomtvia_on_call` meets its contract: a walk of its MIR, by hand. The borrow is opened, the whole struct is copied out of it and passed to `settled`; of what that returns the struct is stored over the old one, and the answer is the result; the borrow is closed at the new struct.
--- All that the proof knows of `settled` is that it meets its contract. Every type here owns facts alone, so what a value owns is made anew wherever it is asked for (`owned`).
+-- `hook::pomtvia_on_call` meets its contract: a walk of its MIR, by hand. The borrow is opened, the whole struct is copied out of it and passed to `on_value`; of what that returns the struct is stored over the old one, and the answer is the result; the borrow is closed at the new struct.
+-- All that the proof knows of `on_value` is that it meets its contract. Every type here owns facts alone, so what a value owns is made anew wherever it is asked for (`owned`).
 -- Assumes nothing.
 use mathlib.Core.Path.{refl, ap}
 use Prim.Native.Nat.{ℕ, _<_, _^_}
@@ -47,10 +47,10 @@ use Rattle.decision.proofs.Monitor as T
 use Rattle.decision.proofs.Monitor.Laws as T′
 use Rattle.hook.proofs.Settled as S
 use Rattle.hook.proofs.Settled.Laws as S′
-use Rattle.hook.proofs.settled as step
-use Rattle.hook.proofs.settled.Symbol as step-def
-use Rattle.hook.proofs.settled.Symbol.{name as #step}
-use Rattle.hook.proofs.settled.Met as step-thm
+use Rattle.hook.proofs.on_value as step
+use Rattle.hook.proofs.on_value.Symbol as step-def
+use Rattle.hook.proofs.on_value.Symbol.{name as #step}
+use Rattle.hook.proofs.on_value.Met as step-thm
 use Rattle.hook.proofs.pomtvia_on_call.Key.{name as #hook}
 use Rattle.hook.proofs.pomtvia_on_call as hook
 use Rattle.hook.proofs.pomtvia_on_call.Statement as stated
@@ -158,4 +158,4 @@ pomtvia-on-call-spec 𝓤 H 𝓜 𝓖 𝓡 =
     entered 𝓤 H (tripleOf 𝓤 H (𝓖 .A) hook.signature (hook.spec 𝓤 H (𝓖 .A) (𝓜 .mem) (𝓡 .run)))
     (tables 𝓤 H 𝓜 𝓡 code.env .C) (tables 𝓤 H 𝓜 𝓡 code.env .Λ) #hook code.function (code.unfolded 𝓤 H 𝓜 𝓡)
     (hook-meets 𝓤 H (𝓖 .A) (givenOf 𝓤 H 𝓜 𝓖) (𝓜 .mem) (𝓡 .run) (tablesOf 𝓤 H 𝓜 (tables 𝓤 H 𝓜 𝓡 code.env))
-    (cited 𝓤 H (Step 𝓤 H (𝓖 .A) (𝓜 .mem) (𝓡 .run)) 𝓜 𝓡 code.env #step step-def.routine code.calls-hook·settled (step-thm.met 𝓤 H 𝓜 𝓖 𝓡)))
+    (cited 𝓤 H (Step 𝓤 H (𝓖 .A) (𝓜 .mem) (𝓡 .run)) 𝓜 𝓡 code.env #step step-def.routine code.calls-hook·on-value (step-thm.met 𝓤 H 𝓜 𝓖 𝓡)))

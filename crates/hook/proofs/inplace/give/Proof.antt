@@ -1,0 +1,24 @@
+-- `give` tells a result from a refusal.
+use mathlib.Core.Path.{refl}
+use Rattle.tracker.specs.Replies.{replyOf}
+use Rattle.hook.specs.Codes.{Given}
+use borrow.Author.Needs.{needs}
+use Rattle.hook.proofs.inplace.give.Statement.{statement}
+use Rattle.hook.proofs.inplace.give.Tie as tie
+
+enum-known-reply : tie.Need-enum-known-reply
+enum-known-reply c = search needs
+
+enum-known-reply-2 : tie.Need-enum-known-reply-2
+enum-known-reply-2 c = search needs
+
+returns : tie.Need-returns
+unfolding Given replyOf
+returns c = rw (c .before .reply .given .1) (refl, refl)
+
+returns-2 : tie.Need-returns-2
+unfolding Given replyOf
+returns-2 c = rw (c .before .reply2 .given .1) (refl, refl)
+
+pub give-spec : {M : Type 1} → statement M
+give-spec = tie.close (tie.spec enum-known-reply enum-known-reply-2 returns returns-2)
