@@ -132,7 +132,7 @@ less f c m (suc n) k h l =
     go later (yes e) = rw (e, m, eq-eqb c c refl, rest n (suc c) (omega arith)) (omega arith)
     go later (no d) = rw (ne-eqb k c d, ← and-all (f k)) (omega (arith, later (omega arith)))
 
-count-less : (x c : ℕ) → x < 2 ^ 64 → has x c ≡ true → count x ≡ count (without x c) + 1
+pub count-less : (x c : ℕ) → x < 2 ^ 64 → has x c ≡ true → count x ≡ count (without x c) + 1
 unfolding count without those
 count-less x c h m =
     ap ones (set-ext x (thoseFrom 64 0 (has x)) h (those-lt (has x)) (λ i l. sym (those-has (has x) i l)))

@@ -8,6 +8,7 @@ pub mod CallEffects
 pub mod Tests
 pub mod CallAnswers
 pub mod Holders
+pub mod Worklist
 pub mod Dispatch
 pub mod Gifts
 pub mod Views

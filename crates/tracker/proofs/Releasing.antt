@@ -2,22 +2,24 @@
 use Prim.Native.Nat.{ℕ, _%_, _<_}
 use native.Mathlib.Omega.{arith}
 use native.Mathlib.Nat.{mod-eq-of-lt}
-use mathlib.Core.Path.{_≡_, refl, sym, ap, _∙_}
+use native.Mathlib.Decide.{ℕ-discrete}
+use mathlib.Core.Path.{_≡_, refl, sym, ap, ap₂, _∙_}
 use mathlib.Core.Bool.{Bool, true, false, not, _&&_, and-false}
 use mathlib.Core.List.{List}
 use lib.Dec.{eqb}
 use lib.ListN.{getD, set, length, length-set}
+use lib.Seq.{getD-set-same, getD-set-other}
 use borrow.Author.Tests.{eqb-true}
-use Rattle.sets.specs.Sets.{has}
+use Rattle.sets.specs.Sets.{has, without}
 use Rattle.sets.proofs.Members.{those-has, none-has}
 use Rattle.flow.specs.Box.{isFile, State}
 use Rattle.flow.specs.Links.{used}
-use Rattle.flow.proofs.Bools.{and-r, by, no-both, chosen-r}
+use Rattle.flow.proofs.Bools.{and-r, by, no-both, chosen-l, chosen-r}
 use Rattle.flow.proofs.TableLaws.{table-length, is-table, table-at}
-use Rattle.tracker.specs.Marks.{fileSet, usedSet, releaseTurn, cleared, released}
+use Rattle.tracker.specs.Marks.{fileSet, usedSet, releaseTurn, releasedAt, cleared, released}
 use Rattle.tracker.proofs.LookupLaws.{file-range, fileSet-has, fileSet-none, usedSet-has}
 use Rattle.tracker.proofs.Effects.{set-at}
-use Rattle.tracker.proofs.Spreading.{turns, turns-table, turn-stores}
+use Rattle.tracker.proofs.Spreading.{turns, turns-table, turn-stores, without-at, without-other}
 
 module _ (l : List ℕ) (lost : ℕ) (t : State) where
   -- a list is the items released if it has their elements
@@ -43,6 +45,53 @@ module _ (l : List ℕ) (lost : ℕ) (t : State) where
       ∙ is-released _ (table-length 64 _)
       (λ c h. table-at 64 _ c 0 h
       ∙ ap (λ (b : Bool). elim (has lost c && not b) as (λ z. ℕ) [ true ↦ 0 | false ↦ getD l c 0 ]) (ap (λ (x : ℕ). has x c) d ∙ usedSet-has t c h))
+
+-- ---- the members of a set, one after the other
+pub stays-used : (l : List ℕ) (v : ℕ) (t : State) → used t v ≡ true → l ≡ releasedAt l v t
+unfolding releasedAt
+stays-used l v t e = sym (chosen-l (used t v) l (set l v 0) e)
+
+pub empties-unused : (l : List ℕ) (v : ℕ) (t : State) → used t v ≡ false → set l v 0 ≡ releasedAt l v t
+unfolding releasedAt
+empties-unused l v t e = sym (chosen-r (used t v) l (set l v 0) e)
+
+module _ (l : List ℕ) (lost v : ℕ) (t : State) (e : length l ≡ 64) (h : v < 64) (m : has lost v ≡ true) where
+  at-itself : (b : Bool) → _≡_ {A = ℕ} (getD (elim b as (λ z. List ℕ) [ true ↦ l | false ↦ set l v 0 ]) v 0) (elim (not b) as (λ z. ℕ) [ true ↦ 0 | false ↦ getD l v 0 ])
+  at-itself true = refl
+  at-itself false = getD-set-same l v 0 0 (omega arith)
+
+  elsewhere : (c : ℕ) → (c ≡ v → ⊥) → (b : Bool) → getD (elim b as (λ z. List ℕ) [ true ↦ l | false ↦ set l v 0 ]) c 0 ≡ getD l c 0
+  elsewhere c d true = refl
+  elsewhere c d false = getD-set-other l v c 0 0 d
+
+  released-at : (c : ℕ) → c < 64 → Dec (c ≡ v)
+      → _≡_ {A = ℕ} (elim (has (without lost v) c && not (used t c)) [ true ↦ 0 | false ↦ getD (releasedAt l v t) c 0 ]) (elim (has lost c && not (used t c)) [ true ↦ 0 | false ↦ getD l c 0 ])
+  unfolding releasedAt
+  released-at c k (yes d) =
+      chosen-r (has (without lost v) c && not (used t c)) 0 _ (ap (λ (b : Bool). b && not (used t c)) (without-at lost v c k d))
+      ∙ ap (λ (j : ℕ). getD (elim (used t v) as (λ z. List ℕ) [ true ↦ l | false ↦ set l v 0 ]) j 0) d
+      ∙ at-itself (used t v)
+      ∙ sym (ap (λ (j : ℕ). elim (has lost j && not (used t j)) as (λ z. ℕ) [ true ↦ 0 | false ↦ getD l j 0 ]) d
+      ∙ ap (λ (b : Bool). elim (b && not (used t v)) as (λ z. ℕ) [ true ↦ 0 | false ↦ getD l v 0 ]) m)
+  released-at c k (no d) =
+      ap₂ (λ (b : Bool) (y : ℕ). elim (b && not (used t c)) as (λ z. ℕ) [ true ↦ 0 | false ↦ y ]) (without-other lost v c k d) (elsewhere c d (used t v))
+
+  -- what is left to empty once one member was seen to
+  pub released-one : released (releasedAt l v t) (without lost v) t ≡ released l lost t
+  unfolding released cleared
+  released-one =
+      is-released l lost t (released (releasedAt l v t) (without lost v) t) (table-length 64 _)
+      (λ c k. table-at 64 _ c 0 k
+      ∙ ap (λ (b : Bool). elim b as (λ z. ℕ) [ true ↦ 0 | false ↦ getD (releasedAt l v t) c 0 ]) (those-has (λ c. has (without lost v) c && not (used t c)) c k)
+      ∙ released-at c k (ℕ-discrete c v))
+
+  pub released-length : length (releasedAt l v t) ≡ 64
+  unfolding releasedAt
+  released-length = by-use (used t v)
+    where
+      by-use : (b : Bool) → length {A = ℕ} (elim b as (λ z. List ℕ) [ true ↦ l | false ↦ set l v 0 ]) ≡ 64
+      by-use true = e
+      by-use false = length-set l v 0 ∙ e
 
 -- the empty set
 pub released-none : (l : List ℕ) (t : State) → length l ≡ 64 → l ≡ released l 0 t

@@ -5,19 +5,20 @@ use native.Mathlib.Nat.{not-suc-le-zero, mod-eq-of-lt}
 use native.Mathlib.Decide.{ℕ-discrete}
 use native.Mathlib.Numerals.{add-one}
 use mathlib.Core.Path.{_≡_, refl, sym, ap, ap₂, _∙_}
-use mathlib.Core.Bool.{Bool, true, false, _||_}
+use mathlib.Core.Bool.{Bool, true, false, not, _&&_, _||_}
 use mathlib.Core.List.{List}
 use lib.Dec.{eqb}
 use lib.ListN.{getD, set, length, length-set}
+use borrow.Author.Tests.{eq-eqb, ne-eqb}
 use lib.Seq.{getD-set-same, getD-set-other, set-getD}
-use Rattle.sets.specs.Sets.{has, only, _∪_}
-use Rattle.sets.proofs.Members.{none-has}
+use Rattle.sets.specs.Sets.{has, only, without, _∪_}
+use Rattle.sets.proofs.Members.{none-has, without-has}
 use Rattle.flow.specs.Tables.{table}
 use Rattle.flow.specs.Box.{own, State, feedersOf, fedBy}
 use Rattle.flow.specs.Links.{given, meets, through, follow, settle, reach}
-use Rattle.flow.proofs.Bools.{choices, chosen-r}
-use Rattle.flow.proofs.TableLaws.{table-length, is-table}
-use Rattle.tracker.specs.Marks.{giveTurn, cleared}
+use Rattle.flow.proofs.Bools.{choices, chosen-l, chosen-r}
+use Rattle.flow.proofs.TableLaws.{table-length, is-table, table-at}
+use Rattle.tracker.specs.Marks.{cleared}
 
 -- ---- a turn for each of 0 to n - 1, one after the other
 unfoldable pub turns : {A : Type 0} → (ℕ → A → A) → ℕ → A → A
@@ -67,11 +68,41 @@ turn-stores b g l n m e = ap (λ (k : ℕ). elim (b k) as (λ z. List ℕ) [ tru
     go true = refl
     go false = sym (set-getD l n 0)
 
-pub gives : (r x : ℕ) (l : List ℕ) → length l ≡ 64 → turns (giveTurn r x) 64 l ≡ given l r x
-unfolding given giveTurn
-gives r x =
-    turns-table (giveTurn r x) (λ v y. elim (has r v) [ true ↦ y ∪ x | false ↦ y ]) 64
-    (λ n l h. turn-stores (has r) (λ k. getD l k 0 ∪ x) l n (n % 64) (mod-eq-of-lt h))
+-- ---- a gift to the members of a set, one after the other
+pub given-none : (l : List ℕ) (x : ℕ) → length l ≡ 64 → given l 0 x ≡ l
+unfolding given
+given-none l x e = sym (is-table 64 _ l e (λ i h. sym (chosen-r (has 0 i) (getD l i 0 ∪ x) (getD l i 0) (none-has i))))
+
+-- a set without v, at v and elsewhere
+and-no : (a : Bool) → (a && false) ≡ false
+and-no true = refl
+and-no false = refl
+
+and-yes : (a : Bool) → (a && true) ≡ a
+and-yes true = refl
+and-yes false = refl
+
+pub without-at : (r v i : ℕ) → i < 64 → i ≡ v → has (without r v) i ≡ false
+without-at r v i k d = without-has r v i k ∙ ap (λ (b : Bool). has r i && not b) (eq-eqb i v d) ∙ and-no (has r i)
+
+pub without-other : (r v i : ℕ) → i < 64 → (i ≡ v → ⊥) → has (without r v) i ≡ has r i
+without-other r v i k d = without-has r v i k ∙ ap (λ (b : Bool). has r i && not b) (ne-eqb i v d) ∙ and-yes (has r i)
+
+-- what is left to give once it was given to one member
+module _ (l : List ℕ) (r x v : ℕ) (e : length l ≡ 64) (h : v < 64) (m : has r v ≡ true) where
+  given-at : (i : ℕ) → i < 64 → Dec (i ≡ v)
+      → _≡_ {A = ℕ} (elim (has (without r v) i) [ true ↦ getD (set l v (getD l v 0 ∪ x)) i 0 ∪ x | false ↦ getD (set l v (getD l v 0 ∪ x)) i 0 ]) (elim (has r i) [ true ↦ getD l i 0 ∪ x | false ↦ getD l i 0 ])
+  given-at i k (yes d) =
+      chosen-r (has (without r v) i) _ _ (without-at r v i k d)
+      ∙ ap (λ (j : ℕ). getD (set l v (getD l v 0 ∪ x)) j 0) d
+      ∙ getD-set-same l v (getD l v 0 ∪ x) 0 (omega arith)
+      ∙ sym (chosen-l (has r i) (getD l i 0 ∪ x) (getD l i 0) (ap (has r) d ∙ m) ∙ ap (λ (j : ℕ). getD l j 0 ∪ x) d)
+  given-at i k (no d) =
+      ap₂ (λ (b : Bool) (y : ℕ). elim b as (λ z. ℕ) [ true ↦ y ∪ x | false ↦ y ]) (without-other r v i k d) (getD-set-other l v i (getD l v 0 ∪ x) 0 d)
+
+  pub given-one : given (set l v (getD l v 0 ∪ x)) (without r v) x ≡ given l r x
+  unfolding given
+  given-one = is-table 64 _ (given (set l v (getD l v 0 ∪ x)) (without r v) x) (table-length 64 _) (λ i k. table-at 64 _ i 0 k ∙ given-at i k (ℕ-discrete i v))
 
 -- of the empty set nothing is cleared
 pub cleared-none : (l : List ℕ) → length l ≡ 64 → l ≡ cleared l 0

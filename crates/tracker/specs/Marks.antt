@@ -40,12 +40,13 @@ unionOf (x ∷ l) = x ∪ unionOf l
 unfoldable pub usedSet : State → ℕ
 usedSet s = those (λ c. used s c)
 
--- one turn of the loops that go through the containers
-unfoldable pub giveTurn : ℕ → ℕ → ℕ → List ℕ → List ℕ
-giveTurn r x v items = elim (has r (v % 64)) [ true ↦ set items (v % 64) (getD items (v % 64) 0 ∪ x) | false ↦ items ]
-
+-- one turn of the loop that goes through the containers
 unfoldable pub releaseTurn : ℕ → ℕ → ℕ → List ℕ → List ℕ
 releaseTurn lost keep v items = elim (has lost (v % 64) && not (has keep (v % 64))) [ true ↦ set items (v % 64) 0 | false ↦ items ]
+
+-- the items with those of container v cleared if it is not in use in the state t
+unfoldable pub releasedAt : List ℕ → ℕ → State → List ℕ
+releasedAt items v t = elim (used t v) [ true ↦ items | false ↦ set items v 0 ]
 
 -- the items with those of every container of a set cleared
 unfoldable pub cleared : List ℕ → ℕ → List ℕ

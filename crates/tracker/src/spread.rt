@@ -2,9 +2,9 @@
 use crate::numbers::Container;
 ghost use mathlib.Core.Path.{_≡_};
 ghost use Prim.Native.Nat.{ℕ, _%_, _^_, _<_};
-ghost use lib.ListN.{length, getD};
+ghost use lib.ListN.{length, getD, set};
+ghost use Rattle.sets.specs.Sets.{_∪_};
 ghost use Rattle.flow.specs.Links.{reach as reached, given};
-ghost use Rattle.tracker.specs.Marks.{giveTurn};
 ghost use Rattle.tracker.specs.View.{links};
 
 // What the types say of lent arrays, for the proofs: nothing is done.
@@ -40,14 +40,12 @@ pub fn reach(feeders: &[u64; 16], fed: &[u64; 16], u: Container) -> u64
     seen
 }
 
-// Adds the items x to container v if it is in the set r.
-fn give_turn(items: &mut [u64; 64], r: u64, x: u64, v: u8)
-    ensures { λ _. ⌜ now (items .exit) ≡ giveTurn r x v (now (items .entry)) ⌝ }
+// Adds the items x to container v.
+fn give_at(items: &mut [u64; 64], v: u8, x: u64)
+    ensures { λ _. ⌜ now (items .exit) ≡ set (now (items .entry)) (v % 64) (getD (now (items .entry)) (v % 64) 0 ∪ x) ⌝ }
 {
-    if sets::member(r, v) {
-        let i = (v % 64) as usize;
-        items[i] = items[i] | x;
-    }
+    let i = (v % 64) as usize;
+    items[i] = items[i] | x;
 }
 
 // Adds the items x to every container of the set r.
@@ -55,7 +53,10 @@ pub fn give(items: &mut [u64; 64], r: u64, x: u64)
     ensures { λ _. ⌜ now (items .exit) ≡ given (now (items .entry)) r x ⌝ }
 {
     sized(*items);
-    for v in 0u8..64 {
-        give_turn(items, r, x, v);
+    let mut left = r;
+    while left != 0 {
+        let v = sets::lowest(left) as u8;
+        give_at(items, v, x);
+        left = sets::without(left, v);
     }
 }

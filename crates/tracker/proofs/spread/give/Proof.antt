@@ -1,41 +1,43 @@
 -- `give` adds the items to every container of the set.
-use mathlib.Core.Path.{_≡_, sym, ap, _∙_}
-use Prim.Native.Nat.{_≤_, _-_}
 use native.Mathlib.Omega.{arith}
+use Rattle.sets.specs.Sets.{count}
+use Rattle.tracker.proofs.Worklist.{turn-below, turn-fewer, Giving, giving-start, giving-more, giving-end}
 use borrow.Author.Needs.{needs}
-use Rattle.tracker.specs.Marks.{giveTurn}
-use Rattle.tracker.proofs.Spreading.{turns, turns-none, turns-more, gives}
 use Rattle.tracker.proofs.spread.give.Statement.{statement}
 use Rattle.tracker.proofs.spread.give.Tie as tie
 
 abbrev Inv-loop : tie.InvT-loop
-Inv-loop items₀ r x v₀ items v = (v ≤ 64) × (items ≡ turns (giveTurn r x) v items₀)
+Inv-loop items₀ r x left₀ items left = Giving items₀ r x items left
 
 abbrev μ-loop : tie.MeasureT-loop
-μ-loop items₀ r x v₀ items v = 64 - v
+μ-loop items₀ r x left₀ items left = count left
 
 sized-requires : tie.Need-sized-requires Inv-loop μ-loop
 sized-requires c κs = search needs
 
 loop-holds : tie.Need-loop-holds Inv-loop μ-loop
-loop-holds c = (search needs, sym (turns-none _ _))
+loop-holds c = giving-start _ _ _ (c .sized .ensures) (search needs)
 
-give-turn-requires : tie.Need-give-turn-requires Inv-loop μ-loop
-give-turn-requires c κs = search needs
+lowest-requires : tie.Need-lowest-requires Inv-loop μ-loop
+lowest-requires c κs = search needs
 
-add-v : tie.Need-add-v Inv-loop μ-loop
-add-v c = search needs
+cast-v : tie.Need-cast-v Inv-loop μ-loop
+cast-v c = omega (arith, turn-below _ (c .before .before .loop .inv .small) (c .before .loop-test .taken) _ (c .lowest .ensures))
+
+give-at-requires : tie.Need-give-at-requires Inv-loop μ-loop
+give-at-requires c κs = search needs
+
+without-requires : tie.Need-without-requires Inv-loop μ-loop
+without-requires c κs = search needs
 
 loop-less : tie.Need-loop-less Inv-loop μ-loop
-loop-less c = search needs
+loop-less c = turn-fewer _ (c .before .before .before .before .before .loop .inv .small) (c .before .before .before .before .loop-test .taken) _ (c .before .before .before .lowest .ensures) _ (c .without .ensures)
 
 loop-again : tie.Need-loop-again Inv-loop μ-loop
-loop-again c = (search needs, c .give-turn .ensures ∙ ap (giveTurn _ _ _) (c .before .before .before .loop .inv .1) ∙ sym (turns-more _ _ _))
+loop-again c = giving-more (c .before .before .before .before .before .loop .inv) (c .before .before .before .before .loop-test .taken) _ (c .before .before .before .lowest .ensures) _ _ (c .before .give-at .ensures) (c .without .ensures)
 
 returns : tie.Need-returns Inv-loop μ-loop
-returns c =
-    let done : c .before .loop .v ≡ 64 = omega arith in
-    c .before .loop .inv .1 ∙ rw done (gives _ _ _ (c .before .before .sized .ensures))
+returns c = giving-end (c .before .loop .inv) (c .loop-test .left)
 
 pub give-spec : {M : Type 1} → statement M
 give-spec =
@@ -45,8 +47,10 @@ give-spec =
     μ-loop
     sized-requires
     loop-holds
-    give-turn-requires
-    add-v
+    lowest-requires
+    cast-v
+    give-at-requires
+    without-requires
     loop-less
     loop-again
     returns)

@@ -1,13 +1,13 @@
--- `release_all` empties each container of the set lost that is not in use.
+-- `release_found` empties each container of the set lost that is not in use.
 use mathlib.Core.Path.{_≡_, sym, ap, _∙_}
 use Prim.Native.Nat.{_≤_, _-_}
 use native.Mathlib.Omega.{arith}
-use borrow.Author.Needs.{needs}
 use Rattle.tracker.specs.Marks.{releaseTurn}
 use Rattle.tracker.proofs.Spreading.{turns, turns-none, turns-more}
-use Rattle.tracker.proofs.Releasing.{released-none, released-turns}
-use Rattle.tracker.proofs.release.release_all.Statement.{statement}
-use Rattle.tracker.proofs.release.release_all.Tie as tie
+use Rattle.tracker.proofs.Releasing.{released-turns}
+use borrow.Author.Needs.{needs}
+use Rattle.tracker.proofs.release.release_found.Statement.{statement}
+use Rattle.tracker.proofs.release.release_found.Tie as tie
 
 abbrev Inv-loop : tie.InvT-loop
 Inv-loop live items₀ feeders fed descriptors names lost keep v₀ items v = (v ≤ 64) × (items ≡ turns (releaseTurn lost keep) v items₀)
@@ -17,9 +17,6 @@ abbrev μ-loop : tie.MeasureT-loop
 
 sized-requires : tie.Need-sized-requires Inv-loop μ-loop
 sized-requires c κs = search needs
-
-returns : tie.Need-returns Inv-loop μ-loop
-returns c = rw (c .if1 .taken) (released-none _ _ (c .before .sized .ensures))
 
 used-set-requires : tie.Need-used-set-requires Inv-loop μ-loop
 used-set-requires c κs = search needs
@@ -39,23 +36,22 @@ loop-less c = search needs
 loop-again : tie.Need-loop-again Inv-loop μ-loop
 loop-again c = (search needs, c .release-turn .ensures ∙ ap (releaseTurn _ _ _) (c .before .before .before .loop .inv .1) ∙ sym (turns-more _ _ _))
 
-returns-2 : tie.Need-returns-2 Inv-loop μ-loop
-returns-2 c =
+returns : tie.Need-returns Inv-loop μ-loop
+returns c =
     let done : c .before .loop .v ≡ 64 = omega arith in
-    c .before .loop .inv .1 ∙ rw done (released-turns _ _ _ _ (c .before .before .used-set .ensures) (c .before .before .before .before .sized .ensures))
+    c .before .loop .inv .1 ∙ rw done (released-turns _ _ _ _ (c .before .before .used-set .ensures) (c .before .before .before .sized .ensures))
 
-pub release-all-spec : {M : Type 1} → statement M
-release-all-spec =
+pub release-found-spec : {M : Type 1} → statement M
+release-found-spec =
     tie.close
     (tie.spec
     Inv-loop
     μ-loop
     sized-requires
-    returns
     used-set-requires
     loop-holds
     release-turn-requires
     add-v
     loop-less
     loop-again
-    returns-2)
+    returns)
