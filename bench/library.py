@@ -101,11 +101,12 @@ def report() -> Report:
     found, peaks = costs(), stacks()
     log = log_of([], CASES["small"][1][0])
     copy = counted(COPY, log) - counted(NONE, log)
-    more = [c.hook - c.in_place for c in found.values()]
+    more = sorted({c.hook - c.in_place for c in found.values()})
+    by = f"{more[0]:,}" if len(more) == 1 else f"{more[0]:,} to {more[-1]:,}"
     text = (
-        f"By the hook a call takes {min(more):,} to {max(more):,} instructions more than in place. One copy of the "
-        f"monitor's 1,808 bytes takes {copy:,}: of these the hook makes one out and one back, and those between "
-        f"them belong to the step by value. Peak of the stack over all kinds, worst state, 32 rules, with that of "
+        f"By the hook a call takes {by} instructions more than in place. One copy of the monitor's "
+        f"1,808 bytes takes {copy:,}: the hook makes one out and one back, {2 * copy:,}, and the rest of the "
+        f"difference is in the step by value, which takes the monitor apart and puts it together again. Peak of the stack over all kinds, worst state, 32 rules, with that of "
         f"the program itself: {peaks[HOOK]:,} bytes by the hook, {peaks[IN_PLACE]:,} in place. Code of the archive: "
         f"{archive_bytes():,} bytes."
     )

@@ -1,5 +1,5 @@
 // Functions for C on a monitor's parts, which lie in memory of the caller's: the fields of `struct pomtvia_monitor` in embed/pomtvia.h, each
-// by its address. Nothing is copied. An answer is its code.
+// by its address. The monitor is not copied out and back. An answer is its code.
 ghost use mathlib.Core.Path.{_≡_};
 ghost use mathlib.Core.List.{List};
 ghost use lib.ListN.{length};
