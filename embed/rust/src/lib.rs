@@ -82,24 +82,29 @@ pub struct Monitor {
     loaded: u8,
 }
 
-/// The name, place and size of each field, for tests that compare layouts.
-pub const LAYOUT: [(&str, usize, usize); 13] = layout();
-
-const fn layout() -> [(&'static str, usize, usize); 13] {
-    use core::mem::{offset_of, size_of};
+/// The name, place and size of each field and of the whole, for tests that compare layouts.
+pub fn layout() -> [(&'static str, usize, usize); 13] {
+    use core::mem::{size_of, size_of_val};
+    let m = Monitor::new();
+    let start = &m as *const Monitor as usize;
+    macro_rules! field {
+        ($name:ident) => {
+            (stringify!($name), core::ptr::addr_of!(m.$name) as usize - start, size_of_val(&m.$name))
+        };
+    }
     [
-        ("live", offset_of!(Monitor, live), 8),
-        ("items", offset_of!(Monitor, items), 512),
-        ("feeders", offset_of!(Monitor, feeders), 128),
-        ("fed", offset_of!(Monitor, fed), 128),
-        ("descriptors", offset_of!(Monitor, descriptors), 512),
-        ("names", offset_of!(Monitor, names), 128),
-        ("tags", offset_of!(Monitor, tags), 32),
-        ("ruled", offset_of!(Monitor, ruled), 32),
-        ("sets", offset_of!(Monitor, sets), 256),
-        ("actions", offset_of!(Monitor, actions), 32),
-        ("substitutes", offset_of!(Monitor, substitutes), 32),
-        ("loaded", offset_of!(Monitor, loaded), 1),
+        field!(live),
+        field!(items),
+        field!(feeders),
+        field!(fed),
+        field!(descriptors),
+        field!(names),
+        field!(tags),
+        field!(ruled),
+        field!(sets),
+        field!(actions),
+        field!(substitutes),
+        field!(loaded),
         ("all", 0, size_of::<Monitor>()),
     ]
 }

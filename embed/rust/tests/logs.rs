@@ -1,6 +1,6 @@
 //! Runs logs through the library, in three ways, and compares with what the program runlog writes. The folder POMTVIA_LOGS holds, for each
 //! log NAME.log, NAME.expected with the program's lines, NAME.items with a line for each container and NAME.holders with one for each item.
-use pomtvia::{answers, next, records_in, Answer, Call, Monitor, Refusal, LAYOUT};
+use pomtvia::{answers, next, records_in, Answer, Call, Monitor, Refusal};
 use std::{fs, path::PathBuf};
 
 fn cases() -> Vec<PathBuf> {
@@ -8,7 +8,7 @@ fn cases() -> Vec<PathBuf> {
     let mut found: Vec<PathBuf> = fs::read_dir(folder)
         .expect("the folder of POMTVIA_LOGS can be read")
         .map(|entry| entry.expect("its entries can be read").path())
-        .filter(|path| path.extension().is_some_and(|end| end == "log"))
+        .filter(|path| path.extension().map_or(false, |end| end == "log"))
         .collect();
     found.sort();
     assert!(found.len() > 10, "there are logs");
@@ -129,7 +129,7 @@ fn no_other_codes() {
 /// Prints the layout for tests/embed to compare: `cargo test -- --nocapture layout`.
 #[test]
 fn layout() {
-    for (name, place, size) in LAYOUT {
+    for (name, place, size) in pomtvia::layout() {
         println!("layout {name} {place} {size}");
     }
 }
