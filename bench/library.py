@@ -105,8 +105,9 @@ def report() -> Report:
     by = f"{more[0]:,}" if len(more) == 1 else f"{more[0]:,} to {more[-1]:,}"
     text = (
         f"By the hook a call takes {by} instructions more than in place. One copy of the monitor's "
-        f"1,808 bytes takes {copy:,}: the hook makes one out and one back, {2 * copy:,}, and the rest of the "
-        f"difference is in the step by value, which takes the monitor apart and puts it together again. Peak of the stack over all kinds, worst state, 32 rules, with that of "
+        f"1,808 bytes takes {copy:,}: the hook makes one out and one back, {2 * copy:,}, and the rest, "
+        f"{more[0] - 2 * copy:,}, is what the step by value takes more than the same in place, since it takes the "
+        f"monitor apart and puts it together again. Peak of the stack over all kinds, worst state, 32 rules, with that of "
         f"the program itself: {peaks[HOOK]:,} bytes by the hook, {peaks[IN_PLACE]:,} in place. Code of the archive: "
         f"{archive_bytes():,} bytes."
     )
