@@ -5,4 +5,5 @@ pub mod StopLaws
 pub mod CleanLaws
 pub mod LoadLaws
 pub mod LogLaws
+pub mod CodeLaws
 pub mod TwoRuns
