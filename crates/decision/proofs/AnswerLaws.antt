@@ -50,31 +50,31 @@ with-tracker m t = monitor t (m .tags) (m .items) (m .sets) (m .actions) (m .sub
 
 -- the same where the tracker was put back
 module _ (m : Monitor) (o : Outcome) (t : Tracker) (e : t ≡ m .tracker) where
+  back : (r : Answer) → Answers m o (record { answer = r; monitor = m }) → Answers m o (record { answer = r; monitor = with-tracker m t })
+  back r = subst (λ (x : Tracker). Answers m o (record { answer = r; monitor = with-tracker m x })) (sym e)
+
   pub refused-back : (n : ℕ) → o ≡ refuses n → Answers m o (record { answer = Refused n; monitor = with-tracker m t })
-  refused-back n h = subst (λ (x : Tracker). Answers m o (record { answer = Refused n; monitor = with-tracker m x })) (sym e) (refused-as m o n h)
+  refused-back n h = back (Refused n) (refused-as m o n h)
 
   pub inhibited-back : (n : ℕ) → o ≡ inhibits n → Answers m o (record { answer = Inhibit n; monitor = with-tracker m t })
-  inhibited-back n h = subst (λ (x : Tracker). Answers m o (record { answer = Inhibit n; monitor = with-tracker m x })) (sym e) (inhibited-as m o n h)
+  inhibited-back n h = back (Inhibit n) (inhibited-as m o n h)
 
 -- A monitor taken apart and put together again: what the parts get, it gets.
 module _ (m : Monitor) (t : Tracker) (e : t ≡ m .tracker) (u′ u : Tracker) (f : u′ ≡ u) (tags items sets actions substitutes : List ℕ) (loaded : ℕ) where
   abbrev after : Tracker → Monitor
   after x = monitor x tags items sets actions substitutes loaded
 
+  by-parts : (P : Monitor → Monitor → Type 0) → P (with-tracker m t) (after u) → P m (after u′)
+  by-parts P h = subst (λ (x : Tracker). P m (after x)) (sym f) (subst (λ (x : Tracker). P (with-tracker m x) (after u)) e h)
+
   pub call-parts : (kind p a b c : ℕ) (r : Answer) → AnswersCall (with-tracker m t) kind p a b c (record { answer = r; monitor = after u }) → AnswersCall m kind p a b c (record { answer = r; monitor = after u′ })
-  call-parts kind p a b c r h =
-      subst (λ (x : Tracker). AnswersCall m kind p a b c (record { answer = r; monitor = after x })) (sym f)
-      (subst (λ (x : Tracker). AnswersCall (with-tracker m x) kind p a b c (record { answer = r; monitor = after u })) e h)
+  call-parts kind p a b c r = by-parts (λ x y. AnswersCall x kind p a b c (record { answer = r; monitor = y }))
 
   pub record-parts : (bytes : List ℕ) (r : Answer) → AnswersRecord (with-tracker m t) bytes (record { answer = r; monitor = after u }) → AnswersRecord m bytes (record { answer = r; monitor = after u′ })
-  record-parts bytes r h =
-      subst (λ (x : Tracker). AnswersRecord m bytes (record { answer = r; monitor = after x })) (sym f)
-      (subst (λ (x : Tracker). AnswersRecord (with-tracker m x) bytes (record { answer = r; monitor = after u })) e h)
+  record-parts bytes r = by-parts (λ x y. AnswersRecord x bytes (record { answer = r; monitor = y }))
 
   pub run-parts : (log before codes : List ℕ) (r : Reply) → Runs (with-tracker m t) log before (record { reply = r; monitor = after u }) codes → Runs m log before (record { reply = r; monitor = after u′ }) codes
-  run-parts log before codes r h =
-      subst (λ (x : Tracker). Runs m log before (record { reply = r; monitor = after x }) codes) (sym f)
-      (subst (λ (x : Tracker). Runs (with-tracker m x) log before (record { reply = r; monitor = after u }) codes) e h)
+  run-parts log before codes r = by-parts (λ x y. Runs x log before (record { reply = r; monitor = y }) codes)
 
 -- a record that was read gets what its reading gets
 pub by-reading : (m : Monitor) (bytes : List ℕ) (x : Record) (r : Answered) → readingOf x ≡ reading bytes → Answers m (outcomeOf (view m) (readingOf x)) r → Answers m (outcome (view m) bytes) r

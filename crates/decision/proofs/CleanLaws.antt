@@ -6,9 +6,8 @@ use mathlib.Core.Bool.{Bool, true, false, not}
 use mathlib.Core.List.{List, []}
 use mathlib.Core.Option.{none}
 use lib.Dec.{eqb}
-use borrow.Author.Tests.{eqb-true}
 use Rattle.flow.specs.Tables.{firstThat, tableFrom, table}
-use Rattle.flow.specs.Box.{itemsOf, Rule, State}
+use Rattle.flow.specs.Box.{itemsOf, State}
 use Rattle.flow.specs.Calls.{Kind, start, openName, create, pipe, device, dup, close, read, write, truncate, mapRead, mapBoth, unmap, unlink, rename, link, fork, exit, label, kindNumber, Call, still, clear, isFed, flowBy, moved, change, after}
 use Rattle.flow.specs.Rules.{holds, firstBroken, lowestBroken}
 use Rattle.flow.specs.Records.{callFrom}

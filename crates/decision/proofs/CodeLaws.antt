@@ -5,7 +5,7 @@ use native.Mathlib.Nat.{mod-eq-of-lt}
 use mathlib.Core.Path.{_≡_, refl, ap, ap₂, _∙_}
 use Rattle.decision.specs.declared.Answer.the-variants.{Refused, Loaded, Allow, Inhibit, Modify}
 use Rattle.decision.specs.Answers.{wordOf}
-use Rattle.decision.specs.Logs.{codeOf, wordBy, wordFrom, wordIn, CodesTell}
+use Rattle.decision.specs.Logs.{codeOf, wordBy, wordFrom, inBytes, CodesTell}
 
 -- a code without a substitute, by its bytes
 one : (w n : ℕ) → w < 256 → n < 256 → wordFrom (w + 256 * n) ≡ wordBy w n ((w + 256 * n) / 65536 % 256)
@@ -27,7 +27,7 @@ two n c ln lc =
     ∙ ap (wordBy 2 n) (ap (λ (k : ℕ). k % 256) h ∙ mod-eq-of-lt lc)
 
 pub codes-tell : CodesTell
-unfolding CodesTell wordIn wordOf codeOf wordBy wordFrom
+unfolding CodesTell inBytes wordOf codeOf wordBy wordFrom
 codes-tell (Refused n) h = one 4 n (omega arith) h
 codes-tell (Loaded n) h = one 3 n (omega arith) h
 codes-tell Allow h = refl

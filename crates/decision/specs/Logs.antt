@@ -37,19 +37,19 @@ wordBy word first second =
 unfoldable pub wordFrom : ℕ → Word
 wordFrom n = wordBy (n % 256) (n / 256 % 256) (n / 65536 % 256)
 
--- the numbers of an answer of the code: each is a byte
-unfoldable pub wordIn : Answer → Type 0
-wordIn (Refused n) = n < 256
-wordIn (Loaded n) = n < 256
-wordIn Allow = Unit {0}
-wordIn (Inhibit n) = n < 256
-wordIn (Modify n c) = (n < 256) × (c < 256)
+-- each number of the answer is a byte
+unfoldable pub inBytes : Answer → Type 0
+inBytes (Refused n) = n < 256
+inBytes (Loaded n) = n < 256
+inBytes Allow = Unit {0}
+inBytes (Inhibit n) = n < 256
+inBytes (Modify n c) = (n < 256) × (c < 256)
 
 -- A code tells its answer: of an answer in bytes, the code stands for its word and numbers.
 unfoldable pub CodesTell : Type 0
-CodesTell = (a : Answer) → wordIn a → wordFrom (codeOf (wordOf a)) ≡ wordOf a
+CodesTell = (a : Answer) → inBytes a → wordFrom (codeOf (wordOf a)) ≡ wordOf a
 
--- whether it is known that no rule is broken, after an answer: a call that passed was judged, and one that was stopped changed nothing
+-- whether it is known that no rule is broken, after an answer: a call that passed leaves none broken, one that was stopped changed nothing
 unfoldable pub cleanAfter : Bool → Word → Bool
 cleanAfter clean allow = true
 cleanAfter clean (inhibit n) = clean

@@ -33,7 +33,8 @@ pub fn code(answer: Answer) -> u32
     }
 }
 
-// Whether it is known that no rule is broken, after an answer; `clean` says it of the state before. A call that passed was judged.
+// Whether it is known that no rule is broken, after an answer; `clean` says it of the state before. A call that passed leaves none
+// broken, one that was stopped changed nothing, and of a new rule nothing is asked here.
 pub fn clean_after(clean: bool, answer: Answer) -> bool
     ensures { λ r. ⌜ r ≡ cleanAfter clean (wordOf answer) ⌝ }
 {

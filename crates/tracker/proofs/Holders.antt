@@ -19,6 +19,7 @@ use Rattle.flow.specs.Box.{State, itemsOf}
 use Rattle.flow.specs.Rules.{holds}
 use Rattle.flow.specs.Queries.{refuse, result, itemsQuery, holders, holdersRefusal, replyBy, holdersQuery, occurs, Lists, SliceBy, HoldersSlice}
 use Rattle.flow.proofs.Bools.{by, chosen-l, chosen-r}
+use Rattle.tracker.proofs.Spreading.{and-none, and-all}
 use Rattle.tracker.specs.View.{state}
 use Rattle.tracker.specs.declared.queries.Reply.{Reply}
 use Rattle.tracker.specs.declared.queries.Reply.the-variants.{Result, Refused}
@@ -27,14 +28,6 @@ use Rattle.tracker.specs.Replies.{replyOf, Answered, withHolder}
 or-none : (a : Bool) → a ≡ (a || false)
 or-none true = refl
 or-none false = refl
-
-and-all : (a : Bool) → a ≡ (a && true)
-and-all true = refl
-and-all false = refl
-
-and-none : (a : Bool) → (a && false) ≡ false
-and-none true = refl
-and-none false = refl
 
 -- ---- the set of the holders
 -- of the first n containers, those that hold item i

@@ -85,13 +85,13 @@ module _ (l : List ℕ) (lost v : ℕ) (t : State) (e : length l ≡ 64) (h : v 
       ∙ ap (λ (b : Bool). elim b as (λ z. ℕ) [ true ↦ 0 | false ↦ getD (releasedAt l v t) c 0 ]) (those-has (λ c. has (without lost v) c && not (used t c)) c k)
       ∙ released-at c k (ℕ-discrete c v))
 
-  pub released-length : length (releasedAt l v t) ≡ 64
-  unfolding releasedAt
-  released-length = by-use (used t v)
-    where
-      by-use : (b : Bool) → length {A = ℕ} (elim b as (λ z. List ℕ) [ true ↦ l | false ↦ set l v 0 ]) ≡ 64
-      by-use true = e
-      by-use false = length-set l v 0 ∙ e
+pub released-length : (l : List ℕ) (v : ℕ) (t : State) → length l ≡ 64 → length (releasedAt l v t) ≡ 64
+unfolding releasedAt
+released-length l v t e = by-use (used t v)
+  where
+    by-use : (b : Bool) → length {A = ℕ} (elim b as (λ z. List ℕ) [ true ↦ l | false ↦ set l v 0 ]) ≡ 64
+    by-use true = e
+    by-use false = length-set l v 0 ∙ e
 
 -- the empty set
 pub released-none : (l : List ℕ) (t : State) → length l ≡ 64 → l ≡ released l 0 t

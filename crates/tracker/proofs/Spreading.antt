@@ -1,7 +1,7 @@
 -- Loops that store at each place of a table in turn, and the reach by its links alone.
-use Prim.Native.Nat.{ℕ, zero, suc, _+_, _%_, _≤_, _<_}
+use Prim.Native.Nat.{ℕ, zero, suc, _+_, _≤_, _<_}
 use native.Mathlib.Omega.{arith}
-use native.Mathlib.Nat.{not-suc-le-zero, mod-eq-of-lt}
+use native.Mathlib.Nat.{not-suc-le-zero}
 use native.Mathlib.Decide.{ℕ-discrete}
 use native.Mathlib.Numerals.{add-one}
 use mathlib.Core.Path.{_≡_, refl, sym, ap, ap₂, _∙_}
@@ -18,7 +18,6 @@ use Rattle.flow.specs.Box.{own, State, feedersOf, fedBy}
 use Rattle.flow.specs.Links.{given, meets, through, follow, settle, reach}
 use Rattle.flow.proofs.Bools.{choices, chosen-l, chosen-r}
 use Rattle.flow.proofs.TableLaws.{table-length, is-table, table-at}
-use Rattle.tracker.specs.Marks.{cleared}
 
 -- ---- a turn for each of 0 to n - 1, one after the other
 unfoldable pub turns : {A : Type 0} → (ℕ → A → A) → ℕ → A → A
@@ -74,19 +73,19 @@ unfolding given
 given-none l x e = sym (is-table 64 _ l e (λ i h. sym (chosen-r (has 0 i) (getD l i 0 ∪ x) (getD l i 0) (none-has i))))
 
 -- a set without v, at v and elsewhere
-and-no : (a : Bool) → (a && false) ≡ false
-and-no true = refl
-and-no false = refl
+pub and-none : (a : Bool) → (a && false) ≡ false
+and-none true = refl
+and-none false = refl
 
-and-yes : (a : Bool) → (a && true) ≡ a
-and-yes true = refl
-and-yes false = refl
+pub and-all : (a : Bool) → a ≡ (a && true)
+and-all true = refl
+and-all false = refl
 
 pub without-at : (r v i : ℕ) → i < 64 → i ≡ v → has (without r v) i ≡ false
-without-at r v i k d = without-has r v i k ∙ ap (λ (b : Bool). has r i && not b) (eq-eqb i v d) ∙ and-no (has r i)
+without-at r v i k d = without-has r v i k ∙ ap (λ (b : Bool). has r i && not b) (eq-eqb i v d) ∙ and-none (has r i)
 
 pub without-other : (r v i : ℕ) → i < 64 → (i ≡ v → ⊥) → has (without r v) i ≡ has r i
-without-other r v i k d = without-has r v i k ∙ ap (λ (b : Bool). has r i && not b) (ne-eqb i v d) ∙ and-yes (has r i)
+without-other r v i k d = without-has r v i k ∙ ap (λ (b : Bool). has r i && not b) (ne-eqb i v d) ∙ sym (and-all (has r i))
 
 -- what is left to give once it was given to one member
 module _ (l : List ℕ) (r x v : ℕ) (e : length l ≡ 64) (h : v < 64) (m : has r v ≡ true) where
@@ -104,18 +103,9 @@ module _ (l : List ℕ) (r x v : ℕ) (e : length l ≡ 64) (h : v < 64) (m : ha
   unfolding given
   given-one = is-table 64 _ (given (set l v (getD l v 0 ∪ x)) (without r v) x) (table-length 64 _) (λ i k. table-at 64 _ i 0 k ∙ given-at i k (ℕ-discrete i v))
 
--- of the empty set nothing is cleared
-pub cleared-none : (l : List ℕ) → length l ≡ 64 → l ≡ cleared l 0
-unfolding cleared
-cleared-none l e = is-table 64 _ l e (λ i h. sym (chosen-r (has 0 i) 0 (getD l i 0) (none-has i)))
-
 pub given-length : (l : List ℕ) (r x : ℕ) → length (given l r x) ≡ 64
 unfolding given
 given-length l r x = table-length 64 _
-
-pub cleared-length : (l : List ℕ) (x : ℕ) → length (cleared l x) ≡ 64
-unfolding cleared
-cleared-length l x = table-length 64 _
 
 -- ---- the reach goes by the links alone
 module _ (s t : State) (ins : (p : ℕ) → feedersOf s p ≡ feedersOf t p) (outs : (p : ℕ) → fedBy s p ≡ fedBy t p) where

@@ -29,54 +29,46 @@ module _ (left : ℕ) (small : left < 2 ^ 64) (more : left ≡ 0 → ⊥) (v : �
   pub turn-fewer : (later : ℕ) → later ≡ without left (v % 64) → count later < count left
   turn-fewer later e = let z : count left ≡ count (without left v) + 1 = count-less left v small member in rw (e, itself) (omega arith)
 
--- ---- a gift
--- what is left to give leads to the whole gift
-pub record Giving (items₀ : List ℕ) (r x : ℕ) (items : List ℕ) (left : ℕ) : Type 0 where
+-- ---- the loop
+-- `whole l r` is the list l with every member of the set r seen to, and `step l v` that with v seen to
+pub record Steps (whole : List ℕ → ℕ → List ℕ) (step : List ℕ → ℕ → List ℕ) : Type 0 where
+  pub none : (l : List ℕ) → length l ≡ 64 → l ≡ whole l 0
+  pub one : (l : List ℕ) (r v : ℕ) → length l ≡ 64 → v < 64 → has r v ≡ true → whole (step l v) (without r v) ≡ whole l r
+  pub long : (l : List ℕ) (v : ℕ) → length l ≡ 64 → length (step l v) ≡ 64
+
+-- what is left leads to the whole
+pub record Working (whole : List ℕ → ℕ → List ℕ) (items₀ : List ℕ) (r : ℕ) (items : List ℕ) (left : ℕ) : Type 0 where
   pub long : length items ≡ 64
   pub small : left < 2 ^ 64
-  pub same : given items left x ≡ given items₀ r x
+  pub same : whole items left ≡ whole items₀ r
 
-pub giving-start : (items : List ℕ) (r x : ℕ) → length items ≡ 64 → r < 2 ^ 64 → Giving items r x items r
-giving-start items r x e h = record { long = e; small = h; same = refl }
+pub working-start : (whole : List ℕ → ℕ → List ℕ) (items : List ℕ) (r : ℕ) → length items ≡ 64 → r < 2 ^ 64 → Working whole items r items r
+working-start whole items r e h = record { long = e; small = h; same = refl }
 
-module _ {items₀ : List ℕ} {r x : ℕ} {items : List ℕ} {left : ℕ} (w : Giving items₀ r x items left) where
-  pub giving-more : (left ≡ 0 → ⊥) → (v : ℕ) → v ≡ lowest left → (items′ : List ℕ) (later : ℕ) → items′ ≡ set items (v % 64) (getD items (v % 64) 0 ∪ x) → later ≡ without left (v % 64) → Giving items₀ r x items′ later
-  giving-more more v is items′ later e f =
+module _ {whole step : List ℕ → ℕ → List ℕ} (s : Steps whole step) {items₀ : List ℕ} {r : ℕ} {items : List ℕ} {left : ℕ} (w : Working whole items₀ r items left) where
+  pub working-more : (left ≡ 0 → ⊥) → (v : ℕ) → v ≡ lowest left → (items′ : List ℕ) (later : ℕ) → items′ ≡ step items (v % 64) → later ≡ without left (v % 64) → Working whole items₀ r items′ later
+  working-more more v is items′ later e f =
       let k : v % 64 ≡ v = itself left (w .small) more v is in
-      let a : items′ ≡ set items v (getD items v 0 ∪ x) = e ∙ ap (λ (i : ℕ). set items i (getD items i 0 ∪ x)) k in
+      let a : items′ ≡ step items v = e ∙ ap (step items) k in
       let b : later ≡ without left v = f ∙ ap (without left) k in
       record {
-        long = ap length a ∙ length-set items v (getD items v 0 ∪ x) ∙ w .long;
+        long = ap length a ∙ s .long items v (w .long);
         small = subst (λ (n : ℕ). n < 2 ^ 64) (sym b) (without-lt left v);
-        same = ap₂ (λ (l : List ℕ) (n : ℕ). given l n x) a b ∙ given-one items left x v (w .long) (turn-below left (w .small) more v is) (member left (w .small) more v is) ∙ w .same;
+        same = ap₂ whole a b ∙ s .one items left v (w .long) (turn-below left (w .small) more v is) (member left (w .small) more v is) ∙ w .same;
       }
 
-  pub giving-end : left ≡ 0 → items ≡ given items₀ r x
-  giving-end e = sym (ap (λ (n : ℕ). given items n x) e ∙ given-none items x (w .long)) ∙ w .same
+  pub working-end : left ≡ 0 → items ≡ whole items₀ r
+  working-end e = s .none items (w .long) ∙ ap (whole items) (sym e) ∙ w .same
 
--- ---- emptying
--- what is left to see to leads to the whole emptying
-pub record Seeing (items₀ : List ℕ) (lost : ℕ) (t : State) (items : List ℕ) (left : ℕ) : Type 0 where
-  pub long : length items ≡ 64
-  pub small : left < 2 ^ 64
-  pub same : released items left t ≡ released items₀ lost t
+-- a gift of the items x
+pub giving : (x : ℕ) → Steps (λ l r. given l r x) (λ l v. set l v (getD l v 0 ∪ x))
+giving x =
+    record {
+      none = λ l e. sym (given-none l x e);
+      one = λ l r v e h m. given-one l r x v e h m;
+      long = λ l v e. length-set l v (getD l v 0 ∪ x) ∙ e;
+    }
 
-pub seeing-start : (items : List ℕ) (lost : ℕ) (t : State) → length items ≡ 64 → lost < 2 ^ 64 → Seeing items lost t items lost
-seeing-start items lost t e h = record { long = e; small = h; same = refl }
-
-module _ {items₀ : List ℕ} {lost : ℕ} {t : State} {items : List ℕ} {left : ℕ} (w : Seeing items₀ lost t items left) where
-  pub seeing-more : (left ≡ 0 → ⊥) → (v : ℕ) → v ≡ lowest left → (items′ : List ℕ) (later : ℕ) → items′ ≡ releasedAt items (v % 64) t → later ≡ without left (v % 64) → Seeing items₀ lost t items′ later
-  seeing-more more v is items′ later e f =
-      let k : v % 64 ≡ v = itself left (w .small) more v is in
-      let a : items′ ≡ releasedAt items v t = e ∙ ap (λ (i : ℕ). releasedAt items i t) k in
-      let b : later ≡ without left v = f ∙ ap (without left) k in
-      let l : v < 64 = turn-below left (w .small) more v is in
-      let m : has left v ≡ true = member left (w .small) more v is in
-      record {
-        long = ap length a ∙ released-length items left v t (w .long) l m;
-        small = subst (λ (n : ℕ). n < 2 ^ 64) (sym b) (without-lt left v);
-        same = ap₂ (λ (y : List ℕ) (n : ℕ). released y n t) a b ∙ released-one items left v t (w .long) l m ∙ w .same;
-      }
-
-  pub seeing-end : left ≡ 0 → items ≡ released items₀ lost t
-  seeing-end e = released-none items t (w .long) ∙ ap (λ (n : ℕ). released items n t) (sym e) ∙ w .same
+-- emptying what is not in use in the state t
+pub emptying : (t : State) → Steps (λ l r. released l r t) (λ l v. releasedAt l v t)
+emptying t = record { none = λ l e. released-none l t e; one = λ l r v e h m. released-one l r v t e h m; long = λ l v e. released-length l v t e }
