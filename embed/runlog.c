@@ -84,10 +84,14 @@ static void print_holders(void)
     }
 }
 
-int main(int argc, char **argv)
+/* The exit status of what was asked for. */
+static int run(const char *how)
 {
-    const char *how = argc > 1 ? argv[1] : "";
     size_t length = fread(input, 1, sizeof input, stdin);
+    if (ferror(stdin)) {
+        perror("runlog: standard input was not read whole");
+        return 1;
+    }
     if (length > POMTVIA_LOG_MAX) {
         puts("log too long");
         return 0;
@@ -110,4 +114,14 @@ int main(int argc, char **argv)
         return 2;
     }
     return 0;
+}
+
+int main(int argc, char **argv)
+{
+    int status = run(argc > 1 ? argv[1] : "");
+    if (fflush(stdout) != 0 || ferror(stdout)) {
+        perror("runlog: standard output was not written whole");
+        return 1;
+    }
+    return status;
 }

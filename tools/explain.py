@@ -11,11 +11,12 @@ from phrases import OBSTACLES, answer_meaning, hop_text, rule_text, sentence
 from provenance import DONE, Moment, Origin, Step, chain, gifts_of
 from reasons import Case, Refusal, broken_places, failed_text, refusal_of
 from records import Call, Rule, encode
-from tracker import Answer, broken_rules, divert, divert_obstacle, judge, load_rule
+from tracker import ALLOW, Answer, broken_rules, divert, divert_obstacle, judge, load_rule
 from words import Words, joined, numbers_text, plural, short
 
 SHOWN_BYTES = 16  # of a raw value
 GIVING = (READ, WRITE, MAP_READ, MAP_BOTH)
+OFFERED = ("allow", "rule")  # answers to a record that does what it says
 
 Line = Tuple[int, str]  # how deep it stands, and the text
 
@@ -51,13 +52,15 @@ def path_text(origin: Origin) -> str:
 def way_lines(
     words: Words, origin: Origin, depth: int, present: Optional[int] = None
 ) -> List[Line]:
-    """The way of an item, a line for each record of it; the present one is said to be so."""
+    """The way of an item, a line for each record of it; the present one is not done."""
     lines = []
     for step in chain(origin):
-        place = "this record" if step.record == present else f"record {step.record}"
-        text = f"{place}: {hop_text(words, step)}"
+        done = step.record != present
+        place = f"record {step.record}" if done else "this record"
+        text = f"{place}: {hop_text(words, step, done)}"
         if len(step.path) > 1:
-            text += f"; links carry it on to {words.container(step.path[-1])}: {path_text(step)}"
+            carry = "carry" if done else "would carry"
+            text += f"; links {carry} it on to {words.container(step.path[-1])}: {path_text(step)}"
         lines.append((depth, text))
     return lines
 
@@ -116,7 +119,7 @@ def obstacle_lines(words: Words, step: Step) -> List[Line]:
 
 
 def mended_lines(step: Step, refusal: Refusal) -> List[Line]:
-    """A record that would not be refused, with what it would get."""
+    """A record that does what was meant, with what it would get; none if it would be stopped."""
     while refusal.then is not None:
         refusal = refusal.then
     record = refusal.mended
@@ -124,6 +127,8 @@ def mended_lines(step: Step, refusal: Refusal) -> List[Line]:
         return []
     state = step.before.state
     answer, _ = judge(state, record) if isinstance(record, Call) else load_rule(state, record)
+    if answer.word not in OFFERED:
+        return []
     return [(0, f"in its place this gets {answer}: {record_text(encode(record))}")]
 
 
@@ -250,7 +255,7 @@ def explain(step: Step, own: Own = NO_OWN) -> Explanation:
         step.number,
         record_text(step.data, SHOWN_BYTES),
         answer_text(step.answer),
-        sentence(said, step.record, step.before.state),
+        sentence(said, step.record, step.before.state, step.answer == ALLOW),
         answer_meaning(words, step.answer),
         why_lines(words, step),
         changes,

@@ -42,37 +42,57 @@ from records import Call, Rule
 from tracker import Answer, State
 from words import Words, set_words
 
-# A call, before it is done. {through} is descriptor a and where it leads.
+
+
+class Verb:
+    """A verb in a sentence on a call, as in {do:writes/write}: writes, or would write."""
+
+    def __init__(self, done: bool, would: str = "would ") -> None:
+        self.done = done
+        self.would = would
+
+    def __format__(self, forms: str) -> str:
+        does, would_do = forms.split("/")
+        return does if self.done else self.would + would_do
+
+
+def verbs(done: bool) -> Dict[str, Verb]:
+    """The first verb of a sentence and the further ones, of a call that is done or is not."""
+    return {"do": Verb(done), "also": Verb(done, would="")}
+
+
+# A call. {through} is descriptor a and where it leads before the call.
 CALLS: Dict[int, str] = {
-    START: "{process} starts",
-    OPEN: "{process} opens {name_a} as descriptor {b}",
-    CREATE: "{process} creates {name_a} as a new file, container {c}, open as descriptor {b}",
-    PIPE: "{process} makes a new pipe, container {c}, open as descriptors {a} and {b}",
-    DEVICE: "{process} opens {container_b} as descriptor {a}",
-    DUP: "{process} copies {through} to descriptor {b}",
-    CLOSE: "{process} closes {through}",
-    READ: "{process} reads from {through}",
-    WRITE: "{process} writes to {through}",
-    TRUNCATE: "{process} truncates {through}",
-    MAP_READ: "{process} maps {through}, to read",
-    MAP_BOTH: "{process} maps {through}, both ways",
-    UNMAP: "{process} unmaps {container_a}",
-    UNLINK: "{process} unlinks {name_a}",
-    RENAME: "{process} renames {name_a} to {name_b}",
-    LINK: "{process} makes {name_b} lead where {name_a} leads",
-    FORK: "{process} forks {child}",
-    EXIT: "{process} exits",
-    LABEL: "{item_b} comes in from outside and is given to {container_a}",
+    START: "{process} {do:starts/start}",
+    OPEN: "{process} {do:opens/open} {name_a} as descriptor {b}",
+    CREATE: "{process} {do:creates/create} {name_a} as a new file, container {c}, open as "
+    "descriptor {b}",
+    PIPE: "{process} {do:makes/make} a new pipe, container {c}, open as descriptors {a} and {b}",
+    DEVICE: "{process} {do:opens/open} {container_b} as descriptor {a}",
+    DUP: "{process} {do:copies/copy} {through} to descriptor {b}",
+    CLOSE: "{process} {do:closes/close} {through}",
+    READ: "{process} {do:reads/read} from {through}",
+    WRITE: "{process} {do:writes/write} to {through}",
+    TRUNCATE: "{process} {do:truncates/truncate} {through}",
+    MAP_READ: "{process} {do:maps/map} {through}, to read",
+    MAP_BOTH: "{process} {do:maps/map} {through}, both ways",
+    UNMAP: "{process} {do:unmaps/unmap} {container_a}",
+    UNLINK: "{process} {do:unlinks/unlink} {name_a}",
+    RENAME: "{process} {do:renames/rename} {name_a} to {name_b}",
+    LINK: "{process} {do:makes/make} {name_b} lead where {name_a} leads",
+    FORK: "{process} {do:forks/fork} {child}",
+    EXIT: "{process} {do:exits/exit}",
+    LABEL: "{item_b} {do:comes/come} in from outside and {also:is/be} given to {container_a}",
 }
 
 # How an item gets on by a call.
 HOPS: Dict[int, str] = {
-    READ: "{target} reads it from {giver}",
-    WRITE: "{giver} writes it to {target}",
-    MAP_READ: "{target} maps {giver} to read",
-    MAP_BOTH: "{process} maps {mapped} both ways",
-    FORK: "{target} is forked from {giver}",
-    LABEL: "it comes in from outside, by a label of {target}",
+    READ: "{target} {do:reads/read} it from {giver}",
+    WRITE: "{giver} {do:writes/write} it to {target}",
+    MAP_READ: "{target} {do:maps/map} {giver} to read",
+    MAP_BOTH: "{process} {do:maps/map} {mapped} both ways",
+    FORK: "{target} {do:is/be} forked from {giver}",
+    LABEL: "it {do:comes/come} in from outside, by a label of {target}",
 }
 DIVERTED = "{giver} writes it, and rule {rule} diverts the write to {target}"
 
@@ -119,11 +139,12 @@ def through_text(words: Words, call: Call, state: State) -> str:
     return f"descriptor {call.a}{led}"
 
 
-def call_text(words: Words, call: Call, state: State) -> str:
-    """A call in words, by the state before it."""
+def call_text(words: Words, call: Call, state: State, done: bool) -> str:
+    """A call in words, by the state before it; one that is not done as it stands would do so."""
     if call.kind not in KINDS:
         return f"a call of kind {call.kind}, which is unknown"
     return CALLS[call.kind].format(
+        **verbs(done),
         process=words.process(call.process),
         a=call.a,
         b=call.b,
@@ -155,12 +176,12 @@ def action_text(words: Words, rule: Rule) -> str:
     return ACTIONS.get(rule.action, wrong).format(substitute=words.container(rule.substitute))
 
 
-def sentence(words: Words, record: Any, state: State) -> str:
-    """A record in words."""
+def sentence(words: Words, record: Any, state: State, done: bool) -> str:
+    """A record in words; a call that is not done as it stands is said to be one that would."""
     if record is None:
         return "bytes that are no record of a known tag and length"
     if isinstance(record, Call):
-        return call_text(words, record, state)
+        return call_text(words, record, state, done)
     return f"a rule: {rule_text(words, record)}; {action_text(words, record)}"
 
 
@@ -170,13 +191,14 @@ def answer_meaning(words: Words, answer: Answer) -> str:
     return ANSWERS[answer.word].format(*answer.numbers, substitute=substitute)
 
 
-def hop_text(words: Words, origin: Origin) -> str:
-    """How an item got on by the record of an origin, links left out."""
+def hop_text(words: Words, origin: Origin, done: bool) -> str:
+    """How an item got on by the record of an origin, or would have; links left out."""
     target = origin.path[0]
     ends = sorted((target, target if origin.giver is None else origin.giver))
     process = next((end for end in ends if end in PROCESS_CONTAINERS), ends[0])
     mapped = next((end for end in ends if end != process), ends[-1])
     return (HOPS[origin.kind] if origin.rule is None else DIVERTED).format(
+        **verbs(done),
         giver="" if origin.giver is None else words.container(origin.giver),
         target=words.container(target),
         process=words.container(process),

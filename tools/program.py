@@ -2,23 +2,22 @@
 
 import os
 import shutil
-import signal
 import subprocess
 import sys
 from pathlib import Path
-from typing import Callable, List, Optional
+from typing import List, Optional
 
 import modelpath
 from limits import LOG_LIMIT
+from logfiles import Say
 from logtext import split_records
+from words import counted
 
 ROOT = Path(modelpath.ROOT)
 PROGRAM = ROOT / "target" / "bin" / "runlog"
 BUILD = ["rt", "check", "runlog"]
 SOURCES = ("src", "specs", "proofs")  # of a crate
 NO_PROGRAM = 3  # the exit status
-
-Say = Callable[[str], None]
 
 
 class Failure(Exception):
@@ -68,23 +67,27 @@ def ready_program(chosen: Optional[str], say: Say) -> Path:
     return PROGRAM
 
 
-def run_program(program: Path, log: bytes, output: Optional[int]) -> bytes:
-    """Run the program on a log; what it writes, if the output is a pipe."""
+def run_program(program: Path, log: bytes) -> bytes:
+    """What the program writes for a log; the caller writes it on, and sees that all of it is written."""
     try:
-        run = subprocess.run([str(program)], input=log, stdout=output)
+        run = subprocess.run([str(program)], input=log, stdout=subprocess.PIPE)
     except OSError as error:
         raise Failure(NO_PROGRAM, f"cannot run '{program}': {error.strerror}") from error
-    if run.returncode == -signal.SIGPIPE:
-        raise BrokenPipeError
     if run.returncode != 0 and len(log) <= LOG_LIMIT:
         raise Failure(NO_PROGRAM, f"'{program}' ended with status {run.returncode}")
-    return run.stdout or b""
+    return run.stdout
+
+
+def answers_in(program: Path, log: bytes, output: bytes) -> List[str]:
+    """The lines that the program wrote, which are one for each record."""
+    lines = output.decode("ascii", "replace").splitlines()
+    count = 1 if len(log) > LOG_LIMIT else len(split_records(log))
+    if len(lines) != count or not output.endswith(b"\n" * bool(count)):
+        wrote = f"wrote {counted(len(lines), 'line')} for {counted(count, 'record')}"
+        raise Failure(NO_PROGRAM, f"'{program}' {wrote}")
+    return lines
 
 
 def answers_of(program: Path, log: bytes) -> List[str]:
-    """The lines that the program writes."""
-    lines = run_program(program, log, subprocess.PIPE).decode("ascii", "replace").splitlines()
-    count = 1 if len(log) > LOG_LIMIT else len(split_records(log))
-    if len(lines) != count:
-        raise Failure(NO_PROGRAM, f"'{program}' wrote {len(lines)} lines for {count} records")
-    return lines
+    """The program's answers to the records of a log."""
+    return answers_in(program, log, run_program(program, log))

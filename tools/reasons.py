@@ -1,7 +1,10 @@
 """Why a record is refused, and what would have passed in its place.
 
 TESTS has a function for each refusal. It gives the tests of that row that fail,
-each with the field to change and the values with which it would pass.
+each with the field to change and the values with which it would pass. A record is
+offered in place of a refused one only if it does what that one was meant to do:
+only the number of something new may be another one, and a field that the call does
+not use. Whom a call is made by, what it is done to and which item it is about stay.
 """
 
 from typing import Any, Callable, Dict, List, NamedTuple, Optional, Sequence
@@ -21,6 +24,7 @@ from tracker import (
     NEW_DESCRIPTORS,
     NEW_NAME,
     NEW_PROCESS,
+    UNUSED,
     State,
     call_refusals,
     first_refusal,
@@ -41,6 +45,7 @@ class Failed(NamedTuple):
     values: Sequence[Any] = ()  # those with which the test passes
     fitting: str = ""  # what these are called, as in: open one{s}
     advice: str = ""  # what else to do, or what to do if there are none
+    offers: Sequence[Any] = ()  # those with which the record does what it was meant to do
 
 
 class Case(NamedTuple):
@@ -61,7 +66,7 @@ class Refusal(NamedTuple):
 
     number: int
     failed: List[Failed]
-    mended: Any  # the record with values that pass these tests; None if there are none
+    mended: Any  # the record as it was meant, with these tests passed; None if there is none
     then: Optional["Refusal"]  # what the mended record is refused with
 
 
@@ -94,6 +99,20 @@ def field_words(form: Form) -> Dict[str, str]:
 
 
 FIELD_WORDS = {form.lead[0]: field_words(form) for form in FORMS if form.tag == limits.CALL_TAG}
+
+
+def free_numbers(case: Case, field: str) -> List[int]:
+    """The free numbers for something new that a field of a call names; none if it names none."""
+    kind, state = case.record.kind, case.state
+    if field == NEW_PROCESS.get(kind):
+        return [process for process in PROCESSES if process not in state.live]
+    if field in NEW_DESCRIPTORS.get(kind, ""):
+        return [d for d in DESCRIPTORS if case.leads(d) is None]
+    if field == NEW_NAME.get(kind):
+        return [number for number in NAMES if number not in state.names]
+    if field == NEW_CONTAINER.get(kind):
+        return [number for number in FILES if number not in state.used()]
+    return []
 
 
 # Rows 1 to 5: the form of the record.
@@ -143,9 +162,15 @@ def out_of_range(case: Case) -> List[Failed]:
     found = []
     for field, allowed in zip(Call._fields[1:], FIELD_RANGES[record.kind]):
         value = getattr(record, field)
-        if value not in allowed:
-            text = f"{FIELD_WORDS[record.kind][field]} {value} is out of range"
-            found.append(Failed(text, field, allowed, f"number{{s}} for {kind} there"))
+        if value in allowed:
+            continue
+        if allowed == UNUSED:
+            text = f"field {field} is {value}, and {kind} does not use it"
+            found.append(Failed(text, field, allowed, advice="it must be 0", offers=allowed))
+            continue
+        text = f"{FIELD_WORDS[record.kind][field]} {value} is out of range"
+        fitting = f"number{{s}} for {kind} there"
+        found.append(Failed(text, field, allowed, fitting, offers=free_numbers(case, field)))
     return found
 
 
@@ -188,21 +213,25 @@ def users(case: Case, container: int) -> str:
     return joined([*found, *(f"link {link}" for link in links)])
 
 
+def taken_number(case: Case, field: str, text: str, fitting: str, none: str) -> Failed:
+    """A field that names something new by a number that is taken."""
+    free = free_numbers(case, field)
+    return Failed(text, field, free, fitting, none, offers=free)
+
+
 def taken_descriptors(case: Case) -> List[Failed]:
     """Row 7, the descriptors to open."""
     call = case.record
-    fields = NEW_DESCRIPTORS.get(call.kind, "")
-    closed = [d for d in DESCRIPTORS if case.leads(d) is None]
     owner = case.words.process(call.process)
     none = f"{owner} has every descriptor open: close one first"
     found = []
-    for field in fields:
+    for field in NEW_DESCRIPTORS.get(call.kind, ""):
         number = getattr(call, field)
         target = case.leads(number)
         if target is not None:
             led = case.words.container(target)
             text = f"descriptor {number} of {owner} is open and leads to {led}"
-            found.append(Failed(text, field, closed, "closed one{s}", none))
+            found.append(taken_number(case, field, text, "closed one{s}", none))
     return found
 
 
@@ -213,22 +242,18 @@ def taken(case: Case) -> List[Failed]:
     field = NEW_PROCESS.get(call.kind)
     if field and getattr(call, field) in state.live:
         text = f"{words.process(getattr(call, field))} is live already"
-        dead = [process for process in PROCESSES if process not in state.live]
-        found.append(Failed(text, field, dead, "one{s} not live", "every process is live"))
+        found.append(taken_number(case, field, text, "one{s} not live", "every process is live"))
     found += taken_descriptors(case)
     field = NEW_NAME.get(call.kind)
     if field and getattr(call, field) in state.names:
         name = getattr(call, field)
         text = f"{words.name(name)} is bound and leads to {words.container(state.names[name])}"
-        unbound = [number for number in NAMES if number not in state.names]
-        found.append(Failed(text, field, unbound, "unbound one{s}", "every name is bound"))
+        found.append(taken_number(case, field, text, "unbound one{s}", "every name is bound"))
     field = NEW_CONTAINER.get(call.kind)
-    used = state.used()
-    if field and getattr(call, field) in used:
+    if field and getattr(call, field) in state.used():
         container = getattr(call, field)
         text = f"container {container} is in use by {users(case, container)}"
-        free = [number for number in FILES if number not in used]
-        found.append(Failed(text, field, free, "free one{s}", "every container is in use"))
+        found.append(taken_number(case, field, text, "free one{s}", "every container is in use"))
     return found
 
 
@@ -272,9 +297,9 @@ def same_twice(case: Case) -> List[Failed]:
         others = [item for item in ITEMS if item != record.items[0]]
         text = f"both items are {record.items[0]}"
         return [Failed(text, "second", others, "other item{s}")]
-    others = [d for d in DESCRIPTORS if case.leads(d) is None and d != record.a]
-    none = "no other descriptor is closed"
-    return [Failed(f"both descriptors are {record.a}", "b", others, "other closed one{s}", none)]
+    others = [d for d in free_numbers(case, "b") if d != record.a]
+    text, none = f"both descriptors are {record.a}", "no other descriptor is closed"
+    return [Failed(text, "b", others, "other closed one{s}", none, offers=others)]
 
 
 def no_file(case: Case) -> List[Failed]:
@@ -302,21 +327,26 @@ def broken_places(state: State, rule: Rule) -> List[int]:
     return [c for c in state.holders(rule.items[0]) if forbids(rule, c, rule.items[0])]
 
 
+def protects(rule: Rule) -> bool:
+    """Whether a rule with a set of containers keeps its item out of any."""
+    return any(forbids(rule, container, rule.items[0]) for container in limits.CONTAINERS)
+
+
 def broken_already(case: Case) -> List[Failed]:
-    """Row 12."""
+    """Row 12; a rule that leaves out what breaks it is offered if it protects something else."""
     rule, words = case.record, case.words
     places = broken_places(case.state, rule)
     hold = "holds" if len(places) == 1 else "hold"
     text = f"{words.containers(places)} {hold} {joined(map(words.item, rule.items))} now"
     if rule.tag == limits.COMBINATION_TAG:
         return [Failed(text, advice="load the rule before the two items meet")]
-    inside = rule.tag == limits.DENY_TAG
     fixed = rule.containers.symmetric_difference(places)
-    change = "without {} in its set" if inside else "with {} in its set too"
-    advice = (
-        f"it would be loaded {change.format(numbers_text(places))}, or before the item gets there"
-    )
-    return [Failed(text, "containers", [fixed], advice=advice)]
+    if not protects(rule._replace(containers=fixed)):
+        return [Failed(text, advice="load the rule before the item gets there")]
+    change = "without {} in its set" if rule.tag == limits.DENY_TAG else "with {} in its set too"
+    open_now = f"{change.format(numbers_text(places))}, which it would not protect"
+    advice = f"it would be loaded {open_now}, or before the item gets there"
+    return [Failed(text, "containers", [fixed], advice=advice, offers=[fixed])]
 
 
 TESTS: Dict[int, Callable[[Case], List[Failed]]] = {
@@ -339,16 +369,15 @@ TESTS: Dict[int, Callable[[Case], List[Failed]]] = {
 
 
 def mend(case: Case, failed: List[Failed]) -> Any:
-    """The record with values that pass the failed tests, of a single field one that passes all."""
-    if case.record is None or not all(test.values for test in failed):
+    """The record as it was meant, with the failed tests passed; None if there is none."""
+    if case.record is None or not all(test.offers for test in failed):
         return None
     record = case.record
-    for test in failed:
-        record = replaced(record, test.field, test.values[0])
-    if len(failed) == 1:
-        others = (replaced(record, failed[0].field, value) for value in failed[0].values)
-        record = next((r for r in others if refusal_number(case.state, r) is None), record)
-    return record
+    for test in failed[:-1]:
+        record = replaced(record, test.field, test.offers[0])
+    last = failed[-1]
+    others = [replaced(record, last.field, value) for value in last.offers]
+    return next((r for r in others if refusal_number(case.state, r) is None), others[0])
 
 
 def refusal_of(case: Case, number: int) -> Refusal:

@@ -12,7 +12,7 @@ from logtext import CONTAINER_NAMES, Unfit, read_number
 from names import Own
 from phrases import ANSWERS
 from provenance import Moment, Step
-from words import Words
+from words import Words, counted
 
 INDENT = "    "
 TOGETHER = re.compile(
@@ -125,4 +125,4 @@ def counts_text(steps: List[Step]) -> str:
     """How many records got which answer."""
     counts = Counter(step.answer.word for step in steps)
     listed = ", ".join(f"{counts[word]} {word}" for word in ANSWERS if counts[word]) or "no answers"
-    return f"{len(steps)} {'record' if len(steps) == 1 else 'records'}: {listed}"
+    return f"{counted(len(steps), 'record')}: {listed}"

@@ -5,39 +5,29 @@ model is used for the limits and the form of records only.
 """
 
 import argparse
-import os
 import shutil
-import signal
-import stat
 import sys
 import textwrap
 from collections import Counter
 from pathlib import Path
-from typing import BinaryIO, List, NamedTuple, NoReturn, Optional
+from typing import List, NamedTuple, NoReturn
 
 sys.dont_write_bytecode = True
 
 import modelpath  # noqa: E402, F401
 from limits import LOG_LIMIT  # noqa: E402
-from logtext import (  # noqa: E402
-    REFUSAL_WORDS,
-    BadLine,
-    assemble,
-    assemble_line,
-    record_text,
-    split_records,
-)
-from program import ROOT, Failure, answers_of, ready_program, run_program  # noqa: E402
+from logfiles import BAD_INPUT, FORMS_HELP, NOT_WRITTEN_HELP, STANDARD, Log, Parser  # noqa: E402
+from logfiles import add_form, read_log, run_command  # noqa: E402
+from logtext import REFUSAL_WORDS, assemble_line, record_text, split_records  # noqa: E402
+from program import ROOT, Failure, answers_in, answers_of, ready_program, run_program  # noqa: E402
 
 STORY = ROOT / "logs" / "rowers.log.txt"
-STANDARD = "-"
 SHOWN_BYTES = 16  # of a raw value in --show
 ANSWER_WIDTH = 11
 RECORD_WIDTH = 43
 WIDEST = 120
 
 TOO_LONG = 1
-BAD_INPUT = 2
 
 DESCRIPTION = "Run a log and print what each record gets. Without FILE: a demonstration."
 REFUSAL_LINES = "\n".join(f"    {number:>2}  {word}" for number, word in REFUSAL_WORDS.items())
@@ -56,6 +46,7 @@ EPILOG = f"""what goes in:
   Logs are easier to write as text: logs/ has some, and tools/logtool --help has the
   grammar, with a line for each kind of call. README.md leads to everything else.
 
+{FORMS_HELP}
 what comes out, a line for each record:
   allow                   the call is done
   inhibit RULE            nothing is done: the call would break this rule
@@ -76,7 +67,7 @@ exit status:
   1  the log is too long
   2  the command line, the file or the text cannot be used
   3  the program is missing and could not be built, or it failed
-
+{NOT_WRITTEN_HELP}
 examples:
   ./runlog
   ./runlog logs/run-b.log.txt
@@ -102,70 +93,6 @@ NEXT = """Try next:
 def say(message: str) -> None:
     """A message on standard error."""
     print(f"runlog: {message}", file=sys.stderr, flush=True)
-
-
-# The log.
-
-
-class Log(NamedTuple):
-    """A log: no more bytes than the program needs to see, and how many there are."""
-
-    data: bytes
-    size: str  # in words
-    text: Optional[bytes] = None  # the readable text that it comes from
-
-    @property
-    def too_long(self) -> bool:
-        """Whether the program answers 'log too long'."""
-        return len(self.data) > LOG_LIMIT
-
-
-def size_of(file: BinaryIO, data: bytes) -> str:
-    """How many bytes an input has; only a regular file is known to its end."""
-    status = os.fstat(file.fileno())
-    if len(data) > LOG_LIMIT and not stat.S_ISREG(status.st_mode):
-        return f"more than {LOG_LIMIT:,} bytes"
-    return f"{max(len(data), status.st_size):,} bytes"
-
-
-def shown_name(path: str) -> str:
-    """An input's name in messages."""
-    return "standard input" if path == STANDARD else f"'{path}'"
-
-
-def read_bytes(path: str) -> Log:
-    """The bytes of a file or of standard input."""
-    if path == STANDARD:
-        if sys.stdin is None:
-            raise OSError(None, "standard input is closed")
-        data = sys.stdin.buffer.read(LOG_LIMIT + 1)
-        return Log(data, size_of(sys.stdin.buffer, data))
-    with open(path, "rb") as file:
-        data = file.read(LOG_LIMIT + 1)
-        return Log(data, size_of(file, data))
-
-
-def read_text(path: str) -> Log:
-    """The log that a readable text stands for."""
-    with open(path, "rb") as file:
-        text = file.read()
-    try:
-        data = assemble(text)
-    except BadLine as error:
-        advice = "correct the line (tools/logtool --help has the grammar)"
-        raise Failure(BAD_INPUT, f"{path}, {error}; {advice}") from error
-    return Log(data[: LOG_LIMIT + 1], f"{len(data):,} bytes as a log", text)
-
-
-def read_log(path: str) -> Log:
-    """The log of an argument."""
-    try:
-        return read_text(path) if path.endswith(".txt") else read_bytes(path)
-    except (OSError, ValueError) as error:
-        reason = getattr(error, "strerror", None) or error
-        advice = "give a file that can be read, or - for standard input"
-        message = f"cannot read {shown_name(path)}: {reason}; {advice}"
-        raise Failure(BAD_INPUT, message) from error
 
 
 # Answers beside their records.
@@ -259,7 +186,7 @@ def demonstrate(program: Path) -> None:
 # The command line.
 
 
-class Parser(argparse.ArgumentParser):
+class RunlogParser(Parser):
     """A parser whose errors say what to do."""
 
     def error(self, message: str) -> NoReturn:
@@ -270,58 +197,49 @@ class Parser(argparse.ArgumentParser):
 
 def make_parser() -> Parser:
     """The parser of the command line."""
-    parser = Parser(
-        prog="./runlog",
-        description=DESCRIPTION,
-        epilog=EPILOG,
-        formatter_class=argparse.RawDescriptionHelpFormatter,
-        allow_abbrev=False,
-    )
-    file_help = "the bytes of a log; - is standard input; NAME.txt is a readable text"
+    parser = RunlogParser(prog="./runlog", description=DESCRIPTION, epilog=EPILOG)
+    file_help = "a log, bytes or readable text; - is standard input"
     parser.add_argument("file", metavar="FILE", nargs="?", help=file_help)
+    add_form(parser)
     parser.add_argument("--show", action="store_true", help="print each record beside its answer")
     program_help = "run this program, and build none; if not given: target/bin/runlog"
     parser.add_argument("--program", metavar="PATH", help=program_help)
     return parser
 
 
-def run(arguments: argparse.Namespace) -> int:
+def run_log(program: Path, log: Log) -> None:
+    """What the program writes, as it is; an error if that is not a line for each record."""
+    output = run_program(program, log.data)
+    sys.stdout.buffer.write(output)
+    answers_in(program, log.data, output)
+
+
+def run_file(arguments: argparse.Namespace) -> int:
+    """Run the log of a file or of standard input; the exit status."""
+    log = read_log(arguments.file, arguments.form)
+    log = log._replace(data=log.data[: LOG_LIMIT + 1])
+    program = ready_program(arguments.program, say)
+    (show_log if arguments.show else run_log)(program, log)
+    if not log.too_long:
+        return 0
+    sys.stdout.flush()
+    name = "standard input" if arguments.file == STANDARD else f"'{arguments.file}'"
+    say(f"{name} has {log.size}; a log has at most {LOG_LIMIT:,}: give a shorter one")
+    return TOO_LONG
+
+
+def run(words: List[str]) -> int:
     """Do what the command line says; the exit status."""
-    if arguments.file is None:
+    arguments = make_parser().parse_args(words)
+    try:
+        if arguments.file is not None:
+            return run_file(arguments)
         demonstrate(ready_program(arguments.program, say))
         return 0
-    log = read_log(arguments.file)
-    program = ready_program(arguments.program, say)
-    if arguments.show:
-        show_log(program, log)
-    else:
-        run_program(program, log.data, None)
-    sys.stdout.flush()
-    if log.too_long:
-        name = shown_name(arguments.file)
-        say(f"{name} has {log.size}; a log has at most {LOG_LIMIT:,}: give a shorter one")
-        return TOO_LONG
-    return 0
-
-
-def main(words: List[str]) -> int:
-    """Run the command; the exit status."""
-    if sys.stdout is None:
-        say("standard output is closed; open it")
-        return BAD_INPUT
-    try:
-        status = run(make_parser().parse_args(words))
-        sys.stdout.flush()
-        return status
     except Failure as failure:
         say(str(failure))
         return failure.status
-    except BrokenPipeError:
-        os.dup2(os.open(os.devnull, os.O_WRONLY), sys.stdout.fileno())
-        return 128 + signal.SIGPIPE
-    except KeyboardInterrupt:
-        return 128 + signal.SIGINT
 
 
 if __name__ == "__main__":
-    sys.exit(main(sys.argv[1:]))
+    sys.exit(run_command(run, sys.argv[1:], say))

@@ -344,7 +344,7 @@ def test_files(checks: Checks, options: Options) -> None:
         checks.true("nothing written after an error", not os.path.exists(out))
         check_bad(checks, ["disassemble", log, "-o", log], [log, "the input itself"])
         check_bad(checks, ["disassemble", log, "-o", place], [place, "expected a place to write"])
-        check_bad(checks, ["assemble", place], [place, "expected a file that can be read"])
+        check_bad(checks, ["assemble", place], [place, "give a file that can be read"])
         check_bad(checks, ["draw", log, "-o", out], [out, "ends in .svg, .html, .dot"])
 
 
@@ -354,9 +354,10 @@ def test_bad_commands(checks: Checks, options: Options) -> None:
     check_bad(checks, ["assemble"], ["FILE"])
     for name, more in COMMANDS.items():
         words = [name, "no-directory/file", *more]
-        check_bad(checks, words, ["no-directory/file", "No such file", "expected a file"])
+        check_bad(checks, words, ["no-directory/file", "No such file", "give a file that can be read"])
         words = [name, modelpath.ROOT, *more]
-        check_bad(checks, words, [modelpath.ROOT, "Is a directory", "expected a file"])
+        parts = [modelpath.ROOT, "Is a directory", "give a file that can be read"]
+        check_bad(checks, words, parts)
     check_bad(checks, ["assemble", "-"], ["standard input, line 1: found 'x'"], b"x\n")
     for name in ("show", "explain", "draw"):
         parts = ["standard input", TOO_LONG, "expected at most", "keep its first records only"]

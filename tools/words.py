@@ -21,6 +21,11 @@ def numbers_text(numbers: Iterable[int]) -> str:
     return set_text(numbers, comma=", ", dash=" to ")
 
 
+def counted(count: int, word: str) -> str:
+    """How many of something: 1 record, 2 records."""
+    return f"{count} {word}{'' if count == 1 else 's'}"
+
+
 def plural(word: str, numbers: List[int]) -> str:
     """A word before its numbers."""
     return f"{word}{'s' if len(numbers) > 1 else ''} {numbers_text(numbers)}"

@@ -150,7 +150,14 @@ REFUSED = [
     ),
     (
         "raw 10 0005 0100000001",
-        ["unused field 1 is out of range; the only number for start there is 0"],
+        ["field c is 1, and start does not use it; it must be 0"],
+    ),
+    (
+        "raw 10 0005 1307020300",
+        [
+            "field process is 7, and label does not use it; it must be 0",
+            "in its place this gets allow: label container=radio item=3",
+        ],
     ),
     ("forbid item=64 in=1 inhibit", ["item 64 is out of range; items are 0 to 63"]),
     (
@@ -162,7 +169,7 @@ REFUSED = [
         "exit 4",
         ["refused 6 (dead process)", "process 4 is not live; no process is live: start one first"],
     ),
-    (LIVE + "exit 4", ["process 4 is not live; the only live one is 0", "gets allow: exit 0"]),
+    (LIVE + "exit 4", ["process 4 is not live; the only live one is 0"]),
     (LIVE + LIVE, ["refused 7 (taken)", "process 0 is live already; ones not live are 1 to 15"]),
     (LIVE + "fork 0 child=0", ["process 0 is live already", "gets allow: fork 0 child=1"]),
     (
@@ -201,7 +208,7 @@ REFUSED = [
     ),
     (
         FILE + "map-read 0 descriptor=0\nunmap 0 container=25",
-        ["the only container linked with it is 24", "gets allow: unmap 0 container=24"],
+        ["the only container linked with it is 24"],
     ),
     (
         FILE + "label container=25 item=1",
@@ -212,7 +219,6 @@ REFUSED = [
         [
             "refused 7 (taken)",
             "with that mended, refused with 8 (missing): name 6 is unbound",
-            "in its place this gets allow: open 0 name=5 descriptor=1",
         ],
     ),
     (
@@ -240,7 +246,7 @@ REFUSED = [
         [
             "refused 12 (broken already)",
             "process 0 and file 24 hold item 1 now",
-            "it would be loaded without 8, 24 in its set",
+            "it would be loaded without 8, 24 in its set, which it would not protect, or before",
             "the way of item 1 to process 0:",
             "record 3: it comes in from outside, by a label of file 24",
             "record 5: process 0 reads it from file 24",
@@ -261,6 +267,94 @@ REFUSED = [
     ),
 ]
 
+# What is offered in place of a refused record: one that does what was meant, or nothing.
+CONFINED = "confine item=1 to=process0,24 inhibit\n" + PANEL
+OFFERS = [
+    # Something new may have any free number.
+    ("start 16", ["allow: start 0"]),
+    (LIVE + "start 16", ["allow: start 1"]),
+    (LIVE + LIVE, ["allow: start 1"]),
+    (LIVE + "fork 0 child=16", ["allow: fork 0 child=1"]),
+    (FILE + "open 0 name=5 descriptor=32", ["allow: open 0 name=5 descriptor=1"]),
+    (FILE + "dup 0 from=0 to=0", ["allow: dup 0 from=0 to=1"]),
+    (FILE + "link 0 from=5 to=5", ["allow: link 0 from=5 to=0"]),
+    (LIVE + "pipe 0 descriptors=3,3 container=24", ["allow: pipe 0 descriptors=3,0 container=24"]),
+    (LIVE + "pipe 0 descriptors=32,0 container=24", ["allow: pipe 0 descriptors=1,0 container=24"]),
+    (FILE + "pipe 0 descriptors=0,0 container=24", ["allow: pipe 0 descriptors=1,2 container=25"]),
+    (
+        FILE + "create 0 name=128 descriptor=32 container=23",
+        ["allow: create 0 name=0 descriptor=1 container=25"],
+    ),
+    # A field that is not used has one meaning.
+    ("raw 10 0005 0103000001", ["allow: start 3"]),
+    (PANEL + "raw 10 0005 0900010002", ["allow: write 0 descriptor=1"]),
+    # Nobody knows which process, descriptor, name, container or item was meant.
+    ("label container=64 item=1", []),
+    (FILE + "label container=25 item=1", []),
+    (FILE + "label container=24 item=64", []),
+    (LIVE + "device 0 descriptor=0 device=8", []),
+    (LIVE + "exit 4", []),
+    (LIVE + "exit 16", []),
+    (PANEL + "write 3 descriptor=1", []),
+    (PANEL + "write 0 descriptor=2", []),
+    (PANEL + "read 0 descriptor=32", []),
+    (PANEL + "close 0 descriptor=2", []),
+    (PANEL + "truncate 0 descriptor=1", []),
+    (PANEL + "truncate 0 descriptor=2", []),
+    (PANEL + "dup 0 from=2 to=3", []),
+    (FILE + "open 0 name=6 descriptor=0", []),
+    (FILE + "unlink 0 name=6", []),
+    (FILE + "rename 0 from=6 to=7", []),
+    (FILE + "map-read 0 descriptor=0\nunmap 0 container=25", []),
+    (LIVE + "fork 3 child=0", []),
+    # Nor which kind, action, item or substitute.
+    ("raw 10 0005 1400000000", []),
+    ("raw 10 0005 0000000000", []),
+    ("raw 12 0004 01020200", []),
+    ("raw 12 0004 01020003", []),
+    ("forbid item=64 in=1 inhibit", []),
+    ("forbid item=1 in=1 divert=process0", []),
+    ("forbid item=1 in=1 divert=64", []),
+    ("separate items=1,1 inhibit", []),
+    # A rule that protects something, and none that protects nothing.
+    (PANEL + "forbid item=1 in=24,30 inhibit", ["rule 0: forbid item=1 in=30 inhibit"]),
+    (PANEL + "forbid item=1 in=24 inhibit", []),
+    (PANEL + "forbid item=1 in=process0,24 divert=port", []),
+    (HELD + "confine item=1 to=25 inhibit", ["rule 0: confine item=1 to=24,25 inhibit"]),
+    (HELD + "confine item=1 to=0-23,25-63 inhibit", []),
+    # No call that is itself stopped or diverted.
+    (CONFINED + "fork 0 child=0", []),
+    (CONFINED + "fork 0 child=16", []),
+    ("forbid item=1 in=panel inhibit\n" + PANEL + "raw 10 0005 0900010002", []),
+    ("forbid item=1 in=panel divert=port\n" + PANEL + "raw 10 0005 0900010002", []),
+    ("raw 10 00", []),
+    ("raw 14 0000", []),
+    ("raw 10 0004 01000000", []),
+    ("separate items=1,2 inhibit\n" * 33, []),
+]
+
+# A call that is not done as it stands would do what it says; one that is done does it.
+MOODS = [
+    ("start 3", "process 3 starts"),
+    ("start 16", "process 16 would start"),
+    (FILE + "open 0 name=6 descriptor=3", "process 0 would open name 6 as descriptor 3"),
+    (LIVE + LIVE + FILE, "process 0 creates name 5 as a new file, container 24, open as descriptor 0"),
+    (FILE + FILE, "process 0 would create name 5 as a new file, container 24, open as descriptor 0"),
+    (LIVE + "dup 0 from=1 to=2", "process 0 would copy descriptor 1 to descriptor 2"),
+    (
+        FILE + "label container=25 item=1",
+        "item 1 would come in from outside and be given to container 25",
+    ),
+    (HELD, "item 1 comes in from outside and is given to file 24"),
+    (CONFINED + "fork 0 child=1", "process 0 would fork process 1"),
+    (CONFINED + "write 0 descriptor=1", "process 0 would write to descriptor 1, device 1 (panel)"),
+    (CONFINED + "write 0 descriptor=0", "process 0 writes to descriptor 0, file 24"),
+    (
+        "forbid item=1 in=panel divert=port\n" + PANEL + "write 0 descriptor=1",
+        "process 0 would write to descriptor 1, device 1 (panel)",
+    ),
+]
+
 # Calls that break a rule.
 DENY = "forbid item=1 in=panel inhibit\n"
 DIVERT = "forbid item=1 in=panel divert=port\n"
@@ -276,7 +370,7 @@ STOPPED = [
             "device 1 (panel) would hold item 1",
             "record 4: it comes in from outside, by a label of file 24",
             "record 6: process 0 reads it from file 24",
-            "this record: process 0 writes it to device 1 (panel)",
+            "this record: process 0 would write it to device 1 (panel)",
             "changed: nothing",
         ],
     ),
@@ -295,7 +389,7 @@ STOPPED = [
             "rule 0 diverts writes only, and this is no write",
             "record 7: process 0 writes it, and rule 0 diverts the write to device 3 (port)",
             "record 11: process 1 reads it from device 3 (port)",
-            "this record: process 1 maps device 1 (panel) both ways",
+            "this record: process 1 would map device 1 (panel) both ways",
         ],
     ),
     (NOT_IN_USE + PANEL + "write 0 descriptor=1", ["cannot divert it: container 40 is not in use"]),
@@ -304,19 +398,19 @@ STOPPED = [
         FAR + "read 0 descriptor=0",
         [
             "device 1 (panel) would hold item 1",
-            "this record: process 0 reads it from file 24; links carry it on to device 1 (panel): "
-            "process 0 -> panel (record 6)",
+            "this record: process 0 would read it from file 24; links would carry it on to "
+            "device 1 (panel): process 0 -> panel (record 6)",
         ],
     ),
     (
         "confine item=1 to=24,process0 inhibit\n" + PANEL + "fork 0 child=1",
-        ["process 1 would hold item 1", "this record: process 1 is forked from process 0"],
+        ["process 1 would hold item 1", "this record: process 1 would be forked from process 0"],
     ),
     (
         "separate items=1,2 inhibit\n" + PANEL + "label container=process0 item=2",
         [
             "process 0 would hold item 1 and item 2",
-            "this record: it comes in from outside, by a label of process 0",
+            "this record: it would come in from outside, by a label of process 0",
         ],
     ),
 ]
@@ -333,8 +427,7 @@ def text_of(said: Explanation) -> str:
 
 def check_parts(session: Session, name: str, log: str, parts: List[str]) -> None:
     """Check what is said of the last record of a log."""
-    *_, last = steps_of(assemble(log.encode()))
-    text = text_of(explain(last))
+    text = text_of(said_of(log))
     for part in parts:
         session.checks.true(f"{name}: {log.splitlines()[-1]}: says '{part}'", part in text, text)
 
@@ -354,6 +447,32 @@ def test_fixed_logs(session: Session) -> None:
     session.checks.equal("words for every kind", set(CALLS), set(limits.KINDS))
     refusals = set(limits.REFUSAL_ORDER) - {limits.SLICE_SHORT}
     session.checks.equal("tests for every refusal", set(TESTS), refusals)
+
+
+def said_of(log: str) -> Explanation:
+    """What is said of the last record of a log."""
+    *_, last = steps_of(assemble(log.encode()))
+    return explain(last)
+
+
+def test_offers(session: Session) -> None:
+    """What is offered in place of each refused record, and that nothing else is."""
+    front = "in its place this gets "
+    for log, wanted in OFFERS:
+        said = said_of(log)
+        name = f"offered for {said.record}"
+        session.checks.true(f"{name}: it is refused", said.answer.startswith("refused"), str(said))
+        offered = [text[len(front) :] for _, text in said.why if text.startswith(front)]
+        session.checks.equal(name, offered, wanted)
+        others = [text for _, text in said.why if "would be loaded" in text]
+        protects = any("rule 0: " in offer for offer in wanted)
+        session.checks.equal(f"{name}: a rule is spoken of", bool(others), protects)
+
+
+def test_moods(session: Session) -> None:
+    """What is done is said to be done, and what is not is not."""
+    for log, wanted in MOODS:
+        session.checks.equal(f"in words: {log.splitlines()[-1]}", said_of(log).sentence, wanted)
 
 
 # The command.
@@ -461,6 +580,13 @@ def test_wrong_program(session: Session) -> None:
         result = logtool("explain", log, "--program", wrong, "--only", "28")
         good = "the program answers otherwise: allow" in result.output
         session.checks.true("a wrong program: the record is marked", good, result.output)
+        script = f"#!/bin/sh\n{session.standin} | sed 's/^inhibit/allow/'\n"
+        for name, more in (("rowers", "and so does 1 more record;"), ("evaluation", "do 2 more records;")):
+            other = Path(folder) / name
+            other.write_text(script)
+            other.chmod(0o755)
+            result = logtool("explain", str(LOGS / f"{name}.log.txt"), "--program", str(other))
+            session.checks.true(f"{name}: {more}", more in result.message, result.message)
         fails = Path(folder) / "fails"
         fails.write_text("#!/bin/sh\nexit 7\n")
         fails.chmod(0o755)

@@ -12,13 +12,14 @@ from changes import Changes, changes_between
 from choices import Choices
 from draw import svg_text
 from explain import Explanation, explain
-from limits import BROKEN_ALREADY, CONTAINERS, CUT_SHORT, DEVICES, FILES, FORK, KINDS, LABEL
-from limits import MAP_BOTH, MAP_READ, READ, WRITE, process_container
+from limits import BROKEN_ALREADY, CONTAINERS, CUT_SHORT, DENY_TAG, DEVICES, FILES, FORK, KINDS
+from limits import LABEL, MAP_BOTH, MAP_READ, READ, WRITE, process_container
+from logtext import assemble_line
 from names import NO_OWN
-from provenance import DONE, Origin, Step, chain, steps_of
+from provenance import DONE, Origin, Step, chain, record_of, steps_of
 from randomlogs import log_generator
 from reasons import Case, Refusal, refusal_of, replaced
-from records import Call, encode, read_frame
+from records import Call, Rule, encode, read_frame
 from report import full_lines
 from scene import Painter, all_contents, make_plan, needed, pair_of
 from tracker import State, Tracker, frame_refusals
@@ -207,17 +208,72 @@ def refusal_faults(step: Step, said: Explanation, choices: Choices) -> Iterator[
         for fault in advice_faults(case, refusal, choices):
             yield f"record {step.number}: {fault}"
         case, last, refusal = case._replace(record=refusal.mended), refusal, refusal.then
-    shown = [text for _, text in said.why if text.startswith("in its place this gets ")]
-    if (last.mended is not None) != bool(shown):
+    offered = last.mended is not None and answer_to(step, last.mended).word in ("allow", "rule")
+    shown = [text for _, text in said.why if text.startswith(OFFER)]
+    if offered != bool(shown):
         yield f"record {step.number}: {shown} for {last.mended}"
-    if last.mended is not None:
-        other = Tracker()
-        other.state = step.before.state
-        answer, _ = other.answer_record(encode(last.mended))
-        if answer.word == "refused" or not shown[0].startswith(
-            f"in its place this gets {answer}: "
-        ):
-            yield f"record {step.number}: {shown[0]}, and the model answers {answer}"
+    for text in shown:
+        for fault in offer_faults(step, text):
+            yield f"record {step.number}: {text}: {fault}"
+
+
+# What is offered in place of a refused record.
+
+OFFER = "in its place this gets "
+
+# By kind, the fields that name something new: these may have another number. The others say what was meant.
+NEW = {1: "p", 2: "b", 3: "abc", 4: "abc", 5: "a", 6: "b", 16: "b", 17: "a"}
+UNUSED = {1: "abc", 2: "c", 5: "c", 6: "c", **dict.fromkeys(range(7, 15), "bc"), 15: "c", 16: "c"}
+UNUSED.update({17: "bc", 18: "abc", 19: "pc"})
+
+
+def answer_to(step: Step, record: Any) -> tracker.Answer:
+    """What the model answers to another record in a record's place."""
+    other = Tracker()
+    other.state = step.before.state
+    return other.answer_record(encode(record))[0]
+
+
+def call_fault(refused: Call, offered: Call) -> str:
+    """Why a call does not do what a refused one was meant to do; nothing if it does."""
+    if refused.kind != offered.kind:
+        return "another kind"
+    for field, was, now in zip("pabc", refused[1:], offered[1:]):
+        free = field in NEW.get(refused.kind, "")
+        unused = field in UNUSED.get(refused.kind, "")
+        if was != now and not free and not (unused and now == 0):
+            return f"another field {field}"
+    return ""
+
+
+def rule_fault(step: Step, offered: Rule) -> str:
+    """The same of a rule: only what breaks it now may be left out, and something is protected."""
+    refused = step.record
+    if refused._replace(containers=offered.containers) != offered:
+        return "another rule"
+    holders = set(step.before.state.holders(refused.items[0]))
+    if refused.containers ^ offered.containers != forbidden(refused) & holders:
+        return "another set"
+    return "" if forbidden(offered) else "it protects nothing"
+
+
+def forbidden(rule: Rule) -> Set[int]:
+    """The containers that a rule forbids its item."""
+    return set(rule.containers) if rule.tag == DENY_TAG else {*CONTAINERS} - rule.containers
+
+
+def offer_faults(step: Step, text: str) -> Iterator[str]:
+    """Whether a record that is offered gets the answer, is not stopped, and does what was meant."""
+    answer, _, line = text[len(OFFER) :].partition(": ")
+    offered = record_of(assemble_line(line))
+    if str(answer_to(step, offered)) != answer or answer.split()[0] not in ("allow", "rule"):
+        yield f"the model answers {answer_to(step, offered)}"
+    if isinstance(offered, Call) and isinstance(step.record, Call):
+        fault = call_fault(step.record, offered)
+    else:
+        fault = rule_fault(step, offered)
+    if fault:
+        yield fault
 
 
 # Rules that would be broken.
@@ -325,6 +381,12 @@ def test_properties(session: Session) -> None:
         counts.update(step.answer.word for step in steps)
         counts.update(f"refused {s.answer.numbers[0]}" for s in steps if s.answer.word == "refused")
         counts.update(f"kind {s.record.kind}" for s in steps if s.answer.word == "allow")
+        counts["offers"] += sum(
+            text.startswith(OFFER)
+            for s in steps
+            if s.answer.word == "refused"
+            for _, text in explain(s).why
+        )
         counts["hops"] += sum(
             len(chain(way)) for s in steps[-1:] for way in s.after.origins.values()
         )
@@ -335,7 +397,7 @@ def test_properties(session: Session) -> None:
 
 def check_counts(session: Session, counts: Counter) -> None:
     """The logs must contain what the properties speak of."""
-    session.say(", ".join(f"{word} {counts[word]}" for word in (*WORDS, "hops")))
+    session.say(", ".join(f"{word} {counts[word]}" for word in (*WORDS, "hops", "offers")))
     if session.logs < 500:
         session.say("fewer than 500 logs: how often each answer occurs is not checked")
         return
@@ -344,6 +406,7 @@ def check_counts(session: Session, counts: Counter) -> None:
     for name in names:
         session.checks.true(f"random logs: {name}", counts[name] >= 20, f"{counts[name]} times")
     session.checks.true("random logs: hops", counts["hops"] > 2000, str(counts["hops"]))
+    session.checks.true("random logs: offers", counts["offers"] > 500, str(counts["offers"]))
 
 
 def test_program(session: Session) -> None:

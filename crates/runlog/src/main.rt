@@ -1,5 +1,5 @@
 // Runs a log (document 01, Runs to check, B). Standard input is the log, at most 65,536 bytes; above that only `log too long` is written. A
-// line is written for each record: the word of its answer, then the numbers.
+// line is written for each record: the word of its answer, then the numbers. Lines that cannot be written are said to be lost.
 ghost use mathlib.Core.Path.{_≡_};
 ghost use Prim.Native.Nat.{ℕ, _≤_};
 ghost use lib.ListN.{length, take};
@@ -10,6 +10,7 @@ ghost use Rattle.tracker.specs.Replies.{replyOf};
 ghost use Rattle.decision.specs.Logs.{codesOf};
 ghost use Rattle.runlog.specs.Limits.{recordLimit};
 use decision::Monitor;
+use libc::STDERR_FILENO;
 use libc::STDIN_FILENO;
 use libc::STDOUT_FILENO;
 use tracker::queries::Reply;
@@ -68,14 +69,27 @@ fn put_answer(out: &mut [u8], at: usize, code: u32) -> usize {
     put_line(out, next, b" ", second)
 }
 
-// Writes what stands in the buffer before `at`.
-fn flush(out: &[u8], at: usize) {
-    if at <= out.len() {
-        io::write_all(STDOUT_FILENO, &out[..at]);
+// Writes a text, and answers whether all of it was written. If not it says so: a program has no exit status to tell it by.
+fn write(text: &[u8]) -> bool {
+    if io::write_all(STDOUT_FILENO, text) {
+        return true;
     }
+    io::write_all(
+        STDERR_FILENO,
+        b"runlog: standard output was not written whole: answers are lost\n",
+    );
+    false
 }
 
-// Writes a line for each answer.
+// Writes what stands in the buffer before `at`, and answers whether all of it was written.
+fn flush(out: &[u8], at: usize) -> bool {
+    if at <= out.len() {
+        return write(&out[..at]);
+    }
+    false
+}
+
+// Writes a line for each answer, as far as they can be written.
 fn print_answers(codes: &[u32]) {
     let mut buffer = io::buffer();
     let out: &mut [u8] = &mut buffer;
@@ -83,7 +97,9 @@ fn print_answers(codes: &[u32]) {
     for k in 0..codes.len() {
         at = put_answer(out, at, codes[k]);
         if 4000 < at {
-            flush(out, at);
+            if !flush(out, at) {
+                return;
+            }
             at = 0;
         }
     }
@@ -123,7 +139,7 @@ fn main() {
     let mut input = io::large_buffer();
     let n = io::read_full(STDIN_FILENO, &mut input);
     if goes_on(n) {
-        io::write_all(STDOUT_FILENO, b"log too long\n");
+        write(b"log too long\n");
         return;
     }
     // A log of 65,536 bytes has at most 21,846 records.

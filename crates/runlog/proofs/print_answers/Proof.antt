@@ -33,6 +33,9 @@ put-answer-requires c κs = search needs
 flush-requires : tie.Need-flush-requires Inv-loop μ-loop
 flush-requires c κs = search needs
 
+returns : tie.Need-returns Inv-loop μ-loop
+returns c = search needs
+
 add-k : tie.Need-add-k Inv-loop μ-loop
 add-k c = search needs
 
@@ -45,8 +48,8 @@ loop-again c = search needs
 flush-requires-2 : tie.Need-flush-requires-2 Inv-loop μ-loop
 flush-requires-2 c κs = search needs
 
-returns : tie.Need-returns Inv-loop μ-loop
-returns c = search needs
+returns-2 : tie.Need-returns-2 Inv-loop μ-loop
+returns-2 c = search needs
 
 pub print-answers-spec : {M : Type 1} → statement M
 print-answers-spec =
@@ -61,8 +64,9 @@ print-answers-spec =
     shared-slice-read-put-answer
     put-answer-requires
     flush-requires
+    returns
     add-k
     loop-less
     loop-again
     flush-requires-2
-    returns)
+    returns-2)

@@ -8,7 +8,6 @@ Bytes that no form fits are written as a raw line.
 import re
 from typing import Callable, Dict, Iterable, List, NamedTuple, Optional, Tuple
 
-import modelpath  # noqa: F401  (before the modules of the model)
 import limits
 from limits import CALL_TAG, COMBINATION_TAG, DENY_TAG, LIMIT_TAG
 from records import frame_bytes, read_frame

@@ -1,0 +1,54 @@
+"""The commands on logs as processes of their own: runlog, logtool and modelrun."""
+
+import os
+import resource
+import subprocess
+from typing import Any, Dict, List, NamedTuple, Optional
+
+from session import ROOT, Session
+
+SECONDS = 60
+NAMELESS = ["--names", "/dev/null"]
+UNBUFFERED = {"0": {}, "1": {"PYTHONUNBUFFERED": "1"}}  # how Python writes to standard output
+
+
+class Ran(NamedTuple):
+    """What a command left."""
+
+    status: int
+    output: bytes
+    message: str
+
+
+def command_words(session: Session, words: str) -> List[str]:
+    """The words of a command; the program at hand is run, so that none is built."""
+    name, *rest = words.split()
+    chosen = {"runlog": [str(ROOT / "runlog"), "--program", session.runnable]}
+    chosen["logtool"] = [str(ROOT / "tools" / "logtool")]
+    chosen["modelrun"] = [str(ROOT / "model" / "modelrun")]
+    if rest[:1] == ["explain"]:
+        rest += ["--program", session.runnable]
+    return [*chosen[name], *rest]
+
+
+def environment(more: Optional[Dict[str, str]] = None) -> Dict[str, str]:
+    """The environment of a command, in which Python is told nothing but this."""
+    kept = {name: text for name, text in os.environ.items() if not name.startswith("PYTHON")}
+    return {**kept, "PYTHONDONTWRITEBYTECODE": "1", **(more or {})}
+
+
+def run(session: Session, words: str, **given: Any) -> Ran:
+    """Run a command; a limit is on the bytes of each file that it writes, or on its memory."""
+    limits = {resource.RLIMIT_FSIZE: given.pop("most", None), resource.RLIMIT_AS: None}
+    limits[resource.RLIMIT_AS] = given.pop("memory", None)
+
+    def limit() -> None:
+        for sort, most in limits.items():
+            if most is not None:
+                resource.setrlimit(sort, (most, most))
+
+    streams = {"stdout": subprocess.PIPE, "stderr": subprocess.PIPE, "env": environment()}
+    made = subprocess.run(
+        command_words(session, words), preexec_fn=limit, timeout=SECONDS, **{**streams, **given}
+    )
+    return Ran(made.returncode, made.stdout or b"", made.stderr.decode())
