@@ -25,7 +25,7 @@ BAD_INPUT = 2
 NOT_WRITTEN = 5
 INTERRUPTED = 128 + signal.SIGINT
 BROKEN_PIPE = 128 + signal.SIGPIPE
-NOT_WRITTEN_HELP = f"  {NOT_WRITTEN}  the output was not written whole: what is there is not to be trusted\n"
+NOT_WRITTEN_HELP = f"  {NOT_WRITTEN}  the output was not written whole: do not trust what is there\n"
 
 TEXT = "text"
 BYTES = "bytes"
@@ -228,7 +228,7 @@ def write_file(path: str, data: bytes) -> None:
 
 
 def buffer_output() -> None:
-    """Put a buffer before a standard output that has none, which may lose what is left of a part."""
+    """Give standard output a buffer: without one, the rest of what is written in part is lost."""
     if isinstance(sys.stdout.buffer, io.RawIOBase):
         like = {"encoding": sys.stdout.encoding, "errors": sys.stdout.errors}
         sys.stdout = open(sys.stdout.fileno(), "w", closefd=False, **like)

@@ -9,9 +9,12 @@ from typing import List, Optional
 from checks import Checks, Options
 from generate import generate_records
 from limits import LOG_LIMIT
+from logtext import disassemble
 from test_runs import RUN_B_INPUT, RUN_B_OUTPUT
 
-COMMAND = [sys.executable, os.path.join(os.path.dirname(os.path.abspath(__file__)), "modelrun")]
+HERE = os.path.dirname(os.path.abspath(__file__))
+COMMAND = [sys.executable, os.path.join(HERE, "modelrun")]
+STORY = os.path.join(os.path.dirname(HERE), "logs", "rowers.log.txt")
 
 
 def command(words: List[str], data: bytes = b"") -> subprocess.CompletedProcess:
@@ -54,6 +57,20 @@ def test_state_and_queries(checks: Checks, options: Options) -> None:
     check_output(checks, ["items", "-", "24"], RUN_B_INPUT, b"0000000000000002 1\n")
     check_output(checks, ["items", "-", "25"], RUN_B_INPUT, b"0000000000000000\n")
     check_output(checks, ["holders", "-", "1"], RUN_B_INPUT, b"3 3 8 24\n")
+
+
+def test_texts(checks: Checks, options: Options) -> None:
+    text = disassemble(RUN_B_INPUT)
+    check_output(checks, ["answers", "-"], text, RUN_B_OUTPUT.encode())
+    check_output(checks, ["items", "-", "24"], text, b"0000000000000002 1\n")
+    check_output(checks, ["holders", "-", "1"], text, b"3 3 8 24\n")
+    check_output(checks, ["holders", "-", "1", "--text"], text, b"3 3 8 24\n")
+    check_output(checks, ["holders", "-", "1", "--bytes"], text, b"0\n")
+    check_output(checks, ["holders", STORY, "1"], b"", b"1 26\n")
+    state = command(["state", "-"], text).stdout
+    checks.equal("modelrun state: text and bytes", state, command(["state", "-"], RUN_B_INPUT).stdout)
+    check_bad(checks, ["state", "-"], "standard input, line 1: found 'x'", b"x\n")
+    check_bad(checks, ["state", "-", "--text"], "standard input, line 1", RUN_B_INPUT)
 
 
 def test_generate(checks: Checks, options: Options) -> None:

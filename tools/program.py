@@ -68,7 +68,7 @@ def ready_program(chosen: Optional[str], say: Say) -> Path:
 
 
 def run_program(program: Path, log: bytes) -> bytes:
-    """What the program writes for a log; the caller writes it on, and sees that all of it is written."""
+    """What the program writes for a log."""
     try:
         run = subprocess.run([str(program)], input=log, stdout=subprocess.PIPE)
     except OSError as error:

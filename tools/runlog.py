@@ -85,7 +85,7 @@ NEXT = """Try next:
   ./runlog --show logs/evaluation.log.txt   copies, a move, an upload and a combination
   tools/logtool explain logs/rowers.log.txt --only inhibit
                                             why these records are stopped, in words
-  tools/logtool draw logs/rowers.log.txt -o rowers.html
+  tools/logtool draw logs/rowers.log.txt -o /tmp/rowers.html
                                             a page for a browser that steps through the log
   ./runlog --help                           what goes in and what comes out"""
 

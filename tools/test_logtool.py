@@ -354,7 +354,8 @@ def test_bad_commands(checks: Checks, options: Options) -> None:
     check_bad(checks, ["assemble"], ["FILE"])
     for name, more in COMMANDS.items():
         words = [name, "no-directory/file", *more]
-        check_bad(checks, words, ["no-directory/file", "No such file", "give a file that can be read"])
+        parts = ["no-directory/file", "No such file", "give a file that can be read"]
+        check_bad(checks, words, parts)
         words = [name, modelpath.ROOT, *more]
         parts = [modelpath.ROOT, "Is a directory", "give a file that can be read"]
         check_bad(checks, words, parts)

@@ -338,8 +338,11 @@ MOODS = [
     ("start 3", "process 3 starts"),
     ("start 16", "process 16 would start"),
     (FILE + "open 0 name=6 descriptor=3", "process 0 would open name 6 as descriptor 3"),
-    (LIVE + LIVE + FILE, "process 0 creates name 5 as a new file, container 24, open as descriptor 0"),
-    (FILE + FILE, "process 0 would create name 5 as a new file, container 24, open as descriptor 0"),
+    (FILE, "process 0 creates name 5 as a new file, container 24, open as descriptor 0"),
+    (
+        FILE + FILE,
+        "process 0 would create name 5 as a new file, container 24, open as descriptor 0",
+    ),
     (LIVE + "dup 0 from=1 to=2", "process 0 would copy descriptor 1 to descriptor 2"),
     (
         FILE + "label container=25 item=1",
@@ -581,7 +584,8 @@ def test_wrong_program(session: Session) -> None:
         good = "the program answers otherwise: allow" in result.output
         session.checks.true("a wrong program: the record is marked", good, result.output)
         script = f"#!/bin/sh\n{session.standin} | sed 's/^inhibit/allow/'\n"
-        for name, more in (("rowers", "and so does 1 more record;"), ("evaluation", "do 2 more records;")):
+        counts = {"rowers": "and so does 1 more record;", "evaluation": "and so do 2 more records;"}
+        for name, more in counts.items():
             other = Path(folder) / name
             other.write_text(script)
             other.chmod(0o755)

@@ -221,7 +221,7 @@ def refusal_faults(step: Step, said: Explanation, choices: Choices) -> Iterator[
 
 OFFER = "in its place this gets "
 
-# By kind, the fields that name something new: these may have another number. The others say what was meant.
+# By kind, the fields that name something new, which may have another number, and those not used.
 NEW = {1: "p", 2: "b", 3: "abc", 4: "abc", 5: "a", 6: "b", 16: "b", 17: "a"}
 UNUSED = {1: "abc", 2: "c", 5: "c", 6: "c", **dict.fromkeys(range(7, 15), "bc"), 15: "c", 16: "c"}
 UNUSED.update({17: "bc", 18: "abc", 19: "pc"})

@@ -1,4 +1,4 @@
-"""Nothing is lost without a word: outputs that are not whole, files replaced, inputs without end."""
+"""Nothing is lost without a word: full disks, files that are replaced, inputs without an end."""
 
 import os
 import stat
