@@ -25,7 +25,7 @@ BAD_INPUT = 2
 NOT_WRITTEN = 5
 INTERRUPTED = 128 + signal.SIGINT
 BROKEN_PIPE = 128 + signal.SIGPIPE
-NOT_WRITTEN_HELP = f"  {NOT_WRITTEN}  the output was not written whole: do not trust what is there\n"
+NOT_WRITTEN_HELP = f"  {NOT_WRITTEN}  the output was not written whole: a full disk, or the like\n"
 
 TEXT = "text"
 BYTES = "bytes"

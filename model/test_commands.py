@@ -67,8 +67,8 @@ def test_texts(checks: Checks, options: Options) -> None:
     check_output(checks, ["holders", "-", "1", "--text"], text, b"3 3 8 24\n")
     check_output(checks, ["holders", "-", "1", "--bytes"], text, b"0\n")
     check_output(checks, ["holders", STORY, "1"], b"", b"1 26\n")
-    state = command(["state", "-"], text).stdout
-    checks.equal("modelrun state: text and bytes", state, command(["state", "-"], RUN_B_INPUT).stdout)
+    states = [command(["state", "-"], log).stdout for log in (text, RUN_B_INPUT)]
+    checks.equal("modelrun state: text and bytes", states[0], states[1])
     check_bad(checks, ["state", "-"], "standard input, line 1: found 'x'", b"x\n")
     check_bad(checks, ["state", "-", "--text"], "standard input, line 1", RUN_B_INPUT)
 

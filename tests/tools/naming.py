@@ -130,7 +130,7 @@ def check_bad_names(session: Session, log: Path, names: Path) -> None:
         good = result.status == 2 and not result.output and f"{names}, line 2: " in result.message
         session.checks.true(f"bad names: {words[0]}", good, str(result))
         result = logtool(*words, "--names", "no-such-file")
-        good = result.status == 2 and "no-such-file: found: No such file" in result.message
+        good = result.status == 2 and "cannot read 'no-such-file': No such file" in result.message
         session.checks.true(f"no names: {words[0]}", good, str(result))
     session.checks.true("bad names: no picture", not os.path.exists(out))
 
