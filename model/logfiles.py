@@ -30,15 +30,15 @@ NOT_WRITTEN_HELP = f"  {NOT_WRITTEN}  the output was not written whole: a full d
 TEXT = "text"
 BYTES = "bytes"
 FORMS_HELP = """A log is bytes or readable text. The first line that is not blank tells which:
-that of a text has no control byte, and the records of a log begin with one. The
-name of the file tells nothing. --text or --bytes settles it.
+that of a text has no control byte, and every record of a known tag begins with
+one. The name of the file tells nothing. --text or --bytes settles it.
 """
 
 # No line of a text has these: the control bytes but for tab, line ends and form feed.
 CONTROLS = frozenset({*range(32), 127} - {*b"\t\n\v\f\r"})
 UTF_16_MARKS = (b"\xff\xfe", b"\xfe\xff")
 
-Say = Callable[[str], None]  # a message on standard error
+Say = Callable[[str], None]
 
 
 class BadInput(Exception):
@@ -60,6 +60,16 @@ class Log(NamedTuple):
     def too_long(self) -> bool:
         """Whether the program answers 'log too long'."""
         return len(self.data) > LOG_LIMIT
+
+
+def speaker(command: str) -> Say:
+    """How a command says something: on standard error, if there is one."""
+
+    def say(message: str) -> None:
+        if sys.stderr is not None:
+            print(f"{command}: {message}", file=sys.stderr, flush=True)
+
+    return say
 
 
 # Inputs.
@@ -138,7 +148,7 @@ def read_log(path: str, form: str = "", whole: bool = False) -> Log:
     with opened(path) as file:
         data = file.read(LOG_LIMIT + 1)
         text = form == TEXT or (form != BYTES and is_text(data))
-        if text or whole:
+        if len(data) > LOG_LIMIT and (text or whole):
             data = read_on(file, path, data)
         size = size_of(file, data)
     return log_of_text(path, data, form) if text else Log(data, size)
@@ -196,7 +206,7 @@ def file_mode(path: str) -> int:
 def replace_file(path: str, data: bytes) -> None:
     """Write a file beside the old one, which stays as it is until the new one is whole."""
     folder, name = os.path.split(os.path.realpath(path))
-    handle, beside = tempfile.mkstemp(prefix=f".{name}.", dir=folder)
+    handle, beside = tempfile.mkstemp(prefix=".new-", dir=folder)
     try:
         with open(handle, "wb") as file:
             file.write(data)

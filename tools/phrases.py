@@ -43,7 +43,6 @@ from tracker import Answer, State
 from words import Words, set_words
 
 
-
 class Verb:
     """A verb in a sentence on a call, as in {do:writes/write}: writes, or would write."""
 

@@ -2,9 +2,9 @@
 
 TESTS has a function for each refusal. It gives the tests of that row that fail,
 each with the field to change and the values with which it would pass. A record is
-offered in place of a refused one only if it does what that one was meant to do:
-only the number of something new may be another one, and a field that the call does
-not use. Whom a call is made by, what it is done to and which item it is about stay.
+offered in place of a refused one only if it does what that one was meant to do: the
+number of something new may be another one, and so may a field that the call does not
+use. Who makes the call, what it is done to and which item it is about stay.
 """
 
 from typing import Any, Callable, Dict, List, NamedTuple, Optional, Sequence

@@ -17,7 +17,7 @@ sys.dont_write_bytecode = True
 import modelpath  # noqa: E402, F401
 from limits import LOG_LIMIT  # noqa: E402
 from logfiles import BAD_INPUT, FORMS_HELP, NOT_WRITTEN_HELP, STANDARD, Log, Parser  # noqa: E402
-from logfiles import add_form, read_log, run_command  # noqa: E402
+from logfiles import add_form, read_log, run_command, speaker  # noqa: E402
 from logtext import REFUSAL_WORDS, assemble_line, record_text, split_records  # noqa: E402
 from program import ROOT, Failure, answers_in, answers_of, ready_program, run_program  # noqa: E402
 
@@ -90,9 +90,7 @@ NEXT = """Try next:
   ./runlog --help                           what goes in and what comes out"""
 
 
-def say(message: str) -> None:
-    """A message on standard error."""
-    print(f"runlog: {message}", file=sys.stderr, flush=True)
+say = speaker("runlog")
 
 
 # Answers beside their records.
