@@ -5,17 +5,19 @@ so that none ends with status 0 where its output was not written whole.
 """
 
 import argparse
+import errno
 import io
 import os
 import signal
 import stat
 import sys
 import tempfile
-from contextlib import contextmanager
-from typing import Any, BinaryIO, Callable, Iterator, List, NamedTuple, Optional
+from contextlib import contextmanager, suppress
+from typing import Any, BinaryIO, Callable, Iterator, List, NamedTuple, Optional, TextIO
 
-from limits import LOG_LIMIT
-from logtext import BadLine, assemble
+from limits import HEADER_LENGTH, LOG_LIMIT
+from logtext import BadLine, assemble, counted, split_records
+from records import read_frame
 
 STANDARD = "-"
 INPUT_LIMIT = 64 * LOG_LIMIT  # bytes of any input: a text is longer than its log
@@ -29,14 +31,17 @@ NOT_WRITTEN_HELP = f"  {NOT_WRITTEN}  the output was not written whole: a full d
 
 TEXT = "text"
 BYTES = "bytes"
-FORMS_HELP = """A log is bytes or readable text. The first line that is not blank tells which:
-that of a text has no control byte, and every record of a known tag begins with
-one. The name of the file tells nothing. --text or --bytes settles it.
+FORMS_HELP = """A log is bytes or readable text. The first two bytes that are not blank tell which:
+a text has no control byte there, and every record of a known tag begins with one.
+The name of the file tells nothing. --text or --bytes settles it.
 """
 
-# No line of a text has these: the control bytes but for tab, line ends and form feed.
-CONTROLS = frozenset({*range(32), 127} - {*b"\t\n\v\f\r"})
+BLANKS = b" \t\n\v\f\r"
+CONTROLS = frozenset({*range(32), 127} - {*BLANKS})
 UTF_16_MARKS = (b"\xff\xfe", b"\xfe\xff")
+
+# What the system says of a place where there is no room.
+FULL = (errno.ENOSPC, errno.EDQUOT, errno.EFBIG, errno.EIO)
 
 Say = Callable[[str], None]
 
@@ -62,12 +67,20 @@ class Log(NamedTuple):
         return len(self.data) > LOG_LIMIT
 
 
+def drop(stream: TextIO) -> None:
+    """Keep the exit from writing again to a stream that cannot be written."""
+    os.dup2(os.open(os.devnull, os.O_WRONLY), stream.fileno())
+
+
 def speaker(command: str) -> Say:
-    """How a command says something: on standard error, if there is one."""
+    """How a command says something: on standard error, if that can be written."""
 
     def say(message: str) -> None:
-        if sys.stderr is not None:
-            print(f"{command}: {message}", file=sys.stderr, flush=True)
+        try:
+            if sys.stderr is not None:
+                print(f"{command}: {message}", file=sys.stderr, flush=True)
+        except OSError:  # the status has to tell it alone
+            drop(sys.stderr)
 
     return say
 
@@ -92,10 +105,11 @@ def opened(path: str) -> Iterator[BinaryIO]:
         else:
             yield sys.stdin.buffer
     except (OSError, ValueError) as error:
-        name = shown_name(path) if path == STANDARD else f"'{path}'"
         reason = getattr(error, "strerror", None) or error
-        advice = "give a file that can be read, or - for standard input"
-        raise BadInput(f"cannot read {name}: {reason}; {advice}") from error
+        advice = "give a file that can be read"
+        if path != STANDARD:
+            path, advice = f"'{path}'", f"{advice}, or - for standard input"
+        raise BadInput(f"cannot read {shown_name(path)}: {reason}; {advice}") from error
 
 
 def read_on(file: BinaryIO, path: str, front: bytes) -> bytes:
@@ -115,10 +129,7 @@ def read_bytes(path: str) -> bytes:
 
 def is_text(front: bytes) -> bool:
     """Whether the front of an input is that of a text, and not that of a log's bytes."""
-    if front.startswith(UTF_16_MARKS):
-        return True
-    line = front.lstrip(b" \t\n\v\f\r").partition(b"\n")[0]
-    return CONTROLS.isdisjoint(line)
+    return front.startswith(UTF_16_MARKS) or CONTROLS.isdisjoint(front.lstrip(BLANKS)[:2])
 
 
 def size_of(file: BinaryIO, data: bytes) -> str:
@@ -131,12 +142,15 @@ def size_of(file: BinaryIO, data: bytes) -> str:
 
 def log_of_text(path: str, text: bytes, form: str) -> Log:
     """The log that a readable text stands for."""
+    name = shown_name(path)
+    other = "" if form == TEXT else ", or add --bytes if these are the bytes of a log"
+    if text.startswith(UTF_16_MARKS):
+        raise BadInput(f"{name}: found a text in UTF-16, expected UTF-8; save it as UTF-8{other}")
     try:
         data = assemble(text)
     except BadLine as error:
         advice = "correct the line (tools/logtool --help has the grammar)"
-        other = "" if form == TEXT else ", or add --bytes if these are the bytes of a log"
-        raise BadInput(f"{shown_name(path)}, {error}; {advice}{other}") from error
+        raise BadInput(f"{name}, {error}; {advice}{other}") from error
     return Log(data, f"{len(data):,} bytes as a log", text)
 
 
@@ -152,6 +166,19 @@ def read_log(path: str, form: str = "", whole: bool = False) -> Log:
             data = read_on(file, path, data)
         size = size_of(file, data)
     return log_of_text(path, data, form) if text else Log(data, size)
+
+
+def cut_short(path: str, log: bytes) -> str:
+    """What is said of a log whose last record is not whole; nothing if it is."""
+    records = split_records(log)
+    if not records or read_frame(records[-1]) is not None:
+        return ""
+    last = records[-1]
+    whole = f"at least {HEADER_LENGTH}"
+    if len(last) >= HEADER_LENGTH:
+        whole = str(HEADER_LENGTH + int.from_bytes(last[1:HEADER_LENGTH], "big"))
+    found = f"found {counted(len(last), 'byte')} of record {len(records)}, expected {whole}"
+    return f"{shown_name(path)}: {found}; the log is cut short: copy it again, whole"
 
 
 # The command line.
@@ -186,34 +213,49 @@ def add_form(parser: argparse.ArgumentParser) -> None:
 # Outputs.
 
 
-def same_file(first: str, second: str) -> bool:
-    """Whether two paths lead to one file."""
+def same_file(path: str, source: str) -> bool:
+    """Whether a path leads to the file that is read."""
     try:
-        return os.path.samefile(first, second)
+        read = os.fstat(sys.stdin.fileno()) if source == STANDARD else os.stat(source)
+        return stat.S_ISREG(read.st_mode) and os.path.samestat(os.stat(path), read)
+    except (OSError, ValueError, AttributeError):
+        return False
+
+
+def is_standard_output(path: str) -> bool:
+    """Whether a path is standard output by another name, such as /dev/stdout."""
+    try:
+        return os.path.samestat(os.stat(path), os.fstat(sys.stdout.fileno()))
     except (OSError, ValueError):
         return False
 
 
-def file_mode(path: str) -> int:
-    """The rights of a file, or those that a new one gets."""
+def take_rights(beside: str, path: str) -> None:
+    """Give a file the owner and the rights of the old one, or the rights that a new one gets."""
     if os.path.exists(path):
-        return stat.S_IMODE(os.stat(path).st_mode)
+        old = os.stat(path)
+        with suppress(PermissionError):  # only the system's owner may give a file away
+            os.chown(beside, old.st_uid, old.st_gid)
+        os.chmod(beside, stat.S_IMODE(old.st_mode))
+        return
     mask = os.umask(0)
     os.umask(mask)
-    return 0o666 & ~mask
+    os.chmod(beside, 0o666 & ~mask)
 
 
 def replace_file(path: str, data: bytes) -> None:
     """Write a file beside the old one, which stays as it is until the new one is whole."""
-    folder, name = os.path.split(os.path.realpath(path))
-    handle, beside = tempfile.mkstemp(prefix=".new-", dir=folder)
+    if os.path.exists(path) and not os.access(path, os.W_OK):
+        raise PermissionError(errno.EACCES, os.strerror(errno.EACCES))
+    target = os.path.realpath(path)
+    handle, beside = tempfile.mkstemp(prefix=".new-", dir=os.path.dirname(target))
     try:
         with open(handle, "wb") as file:
             file.write(data)
             file.flush()
             os.fsync(file.fileno())
-        os.chmod(beside, file_mode(path))
-        os.replace(beside, os.path.join(folder, name))
+        take_rights(beside, path)
+        os.replace(beside, target)
     except BaseException:
         os.unlink(beside)
         raise
@@ -221,32 +263,32 @@ def replace_file(path: str, data: bytes) -> None:
 
 def write_file(path: str, data: bytes) -> None:
     """Write to a file: whole, or not at all; to a pipe or a device as it is."""
-    found = os.path.exists(path)
     try:
-        if found and not os.path.isfile(path):
-            with open(path, "wb") as file:
-                file.write(data)
-        else:
+        if path and (os.path.isfile(path) or not os.path.exists(path)):
             replace_file(path, data)
-    except (FileNotFoundError, IsADirectoryError, ValueError) as error:
-        reason = getattr(error, "strerror", None) or error
-        raise BadInput(f"{path}: found: {reason}; expected a place to write after -o") from error
-    except OSError as error:
+            return
+        with open(path, "wb") as file:
+            file.write(data)
+    except (OSError, ValueError) as error:
+        found = getattr(error, "strerror", None) or error
+        if getattr(error, "errno", None) not in FULL:
+            expected = "expected a place to write after -o"
+            raise BadInput(f"'{path}': found: {found}; {expected}") from error
         kept = "; the old file is as it was" if os.path.isfile(path) else ""
         advice = "make room, or name another place after -o"
-        raise NotWritten(f"{path} was not written: {error.strerror}{kept}; {advice}") from error
+        raise NotWritten(f"'{path}' was not written: {found}{kept}; {advice}") from error
 
 
-def buffer_output() -> None:
-    """Give standard output a buffer: without one, the rest of what is written in part is lost."""
+def prepare_output() -> None:
+    """Let standard output take every character, and have a buffer.
+
+    Without a buffer, the rest of what is written in part is lost.
+    """
+    like = {"encoding": sys.stdout.encoding, "errors": "backslashreplace"}
     if isinstance(sys.stdout.buffer, io.RawIOBase):
-        like = {"encoding": sys.stdout.encoding, "errors": sys.stdout.errors}
         sys.stdout = open(sys.stdout.fileno(), "w", closefd=False, **like)
-
-
-def drop_output() -> None:
-    """Keep the exit from writing again to an output that cannot be written."""
-    os.dup2(os.open(os.devnull, os.O_WRONLY), sys.stdout.fileno())
+    else:
+        sys.stdout.reconfigure(**like)
 
 
 def status_of(run: Callable[[List[str]], int], words: List[str], say: Say) -> int:
@@ -271,16 +313,16 @@ def run_command(run: Callable[[List[str]], int], words: List[str], say: Say) -> 
     if sys.stdout is None:
         say("standard output is closed; open it")
         return BAD_INPUT
-    buffer_output()
+    prepare_output()
     try:
         status = status_of(run, words, say)
         sys.stdout.flush()
         return status
     except BrokenPipeError:
-        drop_output()
+        drop(sys.stdout)
         return BROKEN_PIPE
     except OSError as error:
-        drop_output()
+        drop(sys.stdout)
         advice = "what is there is not whole: make room or choose another place, and run it again"
         say(f"standard output was not written whole: {error.strerror}; {advice}")
         return NOT_WRITTEN

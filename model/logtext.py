@@ -106,6 +106,11 @@ class Form(NamedTuple):
 # Numbers and sets.
 
 
+def counted(count: int, word: str) -> str:
+    """How many of something: 1 record, 2 records."""
+    return f"{count} {word}{'' if count == 1 else 's'}"
+
+
 def read_number(word: str, text: str, names: Names = NO_NAMES, allowed: range = BYTE) -> int:
     """The number that a text says; the whole word is for the message."""
     if text in names.numbers:
@@ -324,10 +329,15 @@ def assemble_line(line: str) -> bytes:
     return frame_bytes(form.tag, form.lead + read_parts(form, words[1:]))
 
 
+def text_lines(text: bytes) -> List[bytes]:
+    """The lines of a text, whatever they end with."""
+    return re.split(b"\r\n|\n|\r", text)
+
+
 def assemble(text: bytes) -> bytes:
     """The log that a text in UTF-8 says."""
     records = []
-    for number, line in enumerate(text.split(b"\n"), 1):
+    for number, line in enumerate(text_lines(text), 1):
         try:
             records.append(assemble_line(line.decode("utf-8-sig" if number == 1 else "utf-8")))
         except UnicodeDecodeError as error:

@@ -53,19 +53,20 @@ def test_state_and_queries(checks: Checks, options: Options) -> None:
         "name 5 -> 24\nprocess 0 descriptor 0 -> 24\nprocess 0 descriptor 1 -> 1\n"
         "rule 0: item 1 not in: 1; divert to 3\n"
     )
-    check_output(checks, ["state", "-"], RUN_B_INPUT, state.encode())
-    check_output(checks, ["items", "-", "24"], RUN_B_INPUT, b"0000000000000002 1\n")
-    check_output(checks, ["items", "-", "25"], RUN_B_INPUT, b"0000000000000000\n")
-    check_output(checks, ["holders", "-", "1"], RUN_B_INPUT, b"3 3 8 24\n")
+    for log, status in ((RUN_B_INPUT, 1), (RUN_B_INPUT[:-2], 0)):  # cut short, and whole
+        check_output(checks, ["state", "-"], log, state.encode(), status)
+        check_output(checks, ["items", "-", "24"], log, b"0000000000000002 1\n", status)
+        check_output(checks, ["items", "-", "25"], log, b"0000000000000000\n", status)
+        check_output(checks, ["holders", "-", "1"], log, b"3 3 8 24\n", status)
 
 
 def test_texts(checks: Checks, options: Options) -> None:
     text = disassemble(RUN_B_INPUT)
     check_output(checks, ["answers", "-"], text, RUN_B_OUTPUT.encode())
-    check_output(checks, ["items", "-", "24"], text, b"0000000000000002 1\n")
-    check_output(checks, ["holders", "-", "1"], text, b"3 3 8 24\n")
-    check_output(checks, ["holders", "-", "1", "--text"], text, b"3 3 8 24\n")
-    check_output(checks, ["holders", "-", "1", "--bytes"], text, b"0\n")
+    check_output(checks, ["items", "-", "24"], text, b"0000000000000002 1\n", 1)
+    check_output(checks, ["holders", "-", "1"], text, b"3 3 8 24\n", 1)
+    check_output(checks, ["holders", "-", "1", "--text"], text, b"3 3 8 24\n", 1)
+    check_output(checks, ["holders", "-", "1", "--bytes"], text, b"0\n", 1)
     check_output(checks, ["holders", STORY, "1"], b"", b"1 26\n")
     states = [command(["state", "-"], log).stdout for log in (text, RUN_B_INPUT)]
     checks.equal("modelrun state: text and bytes", states[0], states[1])
@@ -103,7 +104,7 @@ def test_bad_input(checks: Checks, options: Options) -> None:
     check_bad(checks, ["items", "-", "x"], "from 0 to 63")
     check_bad(checks, ["holders", "-", "-1"], "")
     check_bad(checks, ["holders", "-", "9" * 5000], "from 0 to 63")
-    check_bad(checks, ["state", "-"], "at most 65536 bytes", bytes(LOG_LIMIT + 1))
+    check_bad(checks, ["state", "-"], "at most 65,536 bytes", bytes(LOG_LIMIT + 1))
     check_bad(checks, ["generate", "--seed", "-1"], "from 0 to")
     check_bad(checks, ["generate", "--records", "100001"], "from 0 to 100000")
     check_bad(checks, ["generate", "--mix", "other"], "hostile")

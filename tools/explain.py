@@ -137,7 +137,7 @@ def refusal_lines(words: Words, step: Step) -> List[Line]:
     number = step.answer.numbers[0]
     case = Case(words, step.before.state, step.data, step.record)
     first = refusal = refusal_of(case, number)
-    lines = [(0, failed_text(test)) for test in refusal.failed]
+    lines = [(0, text) for text in dict.fromkeys(map(failed_text, refusal.failed))]
     while refusal.then is not None:
         refusal = refusal.then
         failed = "; ".join(map(failed_text, refusal.failed))
@@ -207,7 +207,8 @@ def change_lines(words: Words, step: Step) -> List[str]:
     lines += name_changes(words, changes)
     lines += descriptor_changes(words, changes)
     lines += [f"{words.container(container)} is no longer in use" for container in changes.freed]
-    held = f"{len(step.after.state.rules)} of {RULE_LIMIT} rules are held"
+    rules = len(step.after.state.rules)
+    held = f"{rules} of {RULE_LIMIT} rules {'is' if rules == 1 else 'are'} held"
     return lines + [held for _ in changes.rules]
 
 

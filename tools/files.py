@@ -1,14 +1,12 @@
-"""The inputs of logtool: logs that can be run, own names, and what is said of faulty logs."""
+"""The inputs of logtool: logs that can be run, and own names."""
 
 import os
 
 import modelpath  # noqa: F401  (before the modules of the model)
-from limits import HEADER_LENGTH, LOG_LIMIT
+from limits import LOG_LIMIT
 from logfiles import STANDARD, BadInput, read_bytes, read_log, shown_name
-from logtext import BadLine, split_records
+from logtext import BadLine
 from names import NO_OWN, Own, beside, read_names
-from records import read_frame
-from words import counted
 
 
 def read_runnable(path: str, form: str) -> bytes:
@@ -21,21 +19,8 @@ def read_runnable(path: str, form: str) -> bytes:
 
 def too_long(path: str) -> str:
     """What is said of a log that is too long."""
-    found = f"found more than {LOG_LIMIT} bytes, expected at most that many"
+    found = f"found more than {LOG_LIMIT:,} bytes, expected at most that many"
     return f"{shown_name(path)}: {found}; a longer log gets no answers: keep its first records only"
-
-
-def cut_short(path: str, log: bytes) -> str:
-    """What is said of a log whose last record is not whole; nothing if it is."""
-    records = split_records(log)
-    if not records or read_frame(records[-1]) is not None:
-        return ""
-    last = records[-1]
-    whole = f"at least {HEADER_LENGTH}"
-    if len(last) >= HEADER_LENGTH:
-        whole = str(HEADER_LENGTH + int.from_bytes(last[1:HEADER_LENGTH], "big"))
-    found = f"found {counted(len(last), 'byte')} of record {len(records)}, expected {whole}"
-    return f"{shown_name(path)}: {found}; the log is cut short: copy it again, whole"
 
 
 def read_own_names(chosen: str, log: str) -> Own:
@@ -45,7 +30,10 @@ def read_own_names(chosen: str, log: str) -> Own:
         return NO_OWN
     if chosen == STANDARD and log == STANDARD:
         raise BadInput("--names -: found standard input twice, expected a file of names")
+    other = "" if chosen else "; --names /dev/null uses no names"
     try:
         return read_names(read_bytes(path))
     except BadLine as error:
-        raise BadInput(f"{shown_name(path)}, {error}") from error
+        raise BadInput(f"{shown_name(path)}, {error}; correct the line{other}") from error
+    except BadInput as error:
+        raise BadInput(f"{error}{other}") from error

@@ -1,12 +1,11 @@
 """A tester's own names for containers, items, names and processes, read from a text."""
 
 import os
-import re
 from typing import Dict, Tuple
 
 import modelpath  # noqa: F401  (before the modules of the model)
 from limits import CONTAINERS, ITEMS, NAMES, PROCESSES, process_container
-from logtext import CONTAINER_NAMES, NO_NAMES, BadLine, Unfit, read_number
+from logtext import CONTAINER_NAMES, NO_NAMES, BadLine, Unfit, read_number, text_lines
 
 LONGEST = 60  # characters of an own name
 ENDING = ".names.txt"
@@ -67,7 +66,7 @@ def read_names(text: bytes) -> Own:
     """The names that a text in UTF-8 gives."""
     own: Own = {}
     lines: Dict[Tuple[str, int], int] = {}
-    for number, line in enumerate(re.split(b"\r?\n", text), 1):
+    for number, line in enumerate(text_lines(text), 1):
         try:
             said = line.decode("utf-8-sig" if number == 1 else "utf-8").partition("#")[0]
             if not said.strip():

@@ -14,6 +14,7 @@ from limits import (
     CREATE,
     DENY_TAG,
     DEVICE,
+    DEVICES,
     DIVERT_ACTION,
     DUP,
     EXIT,
@@ -60,15 +61,15 @@ def verbs(done: bool) -> Dict[str, Verb]:
     return {"do": Verb(done), "also": Verb(done, would="")}
 
 
-# A call. {through} is descriptor a and where it leads before the call.
+# A call. {through} is descriptor a and where it leads before the call; {through_on} goes on.
 CALLS: Dict[int, str] = {
     START: "{process} {do:starts/start}",
     OPEN: "{process} {do:opens/open} {name_a} as descriptor {b}",
     CREATE: "{process} {do:creates/create} {name_a} as a new file, container {c}, open as "
     "descriptor {b}",
     PIPE: "{process} {do:makes/make} a new pipe, container {c}, open as descriptors {a} and {b}",
-    DEVICE: "{process} {do:opens/open} {container_b} as descriptor {a}",
-    DUP: "{process} {do:copies/copy} {through} to descriptor {b}",
+    DEVICE: "{process} {do:opens/open} {device_b} as descriptor {a}",
+    DUP: "{process} {do:copies/copy} {through_on} to descriptor {b}",
     CLOSE: "{process} {do:closes/close} {through}",
     READ: "{process} {do:reads/read} from {through}",
     WRITE: "{process} {do:writes/write} to {through}",
@@ -131,10 +132,10 @@ OBSTACLES: Dict[str, str] = {
 WORD_OF_KIND = {form.lead[0]: form.word for form in FORMS if form.tag == CALL_TAG}
 
 
-def through_text(words: Words, call: Call, state: State) -> str:
-    """Descriptor a of the caller, and where it leads."""
+def through_text(words: Words, call: Call, state: State, end: str = "") -> str:
+    """Descriptor a of the caller, and where it leads, with an end of that."""
     target = state.descriptors.get((call.process, call.a))
-    led = "" if target is None else f", {words.container(target)}"
+    led = "" if target is None else f", {words.container(target)}{end}"
     return f"descriptor {call.a}{led}"
 
 
@@ -149,10 +150,11 @@ def call_text(words: Words, call: Call, state: State, done: bool) -> str:
         b=call.b,
         c=call.c,
         through=through_text(words, call, state),
+        through_on=through_text(words, call, state, end=","),
         name_a=words.name(call.a),
         name_b=words.name(call.b),
         container_a=words.container(call.a),
-        container_b=words.container(call.b),
+        device_b=words.container(call.b) if call.b in DEVICES else f"device {call.b}",
         child=words.process(call.a),
         item_b=words.item(call.b),
     )
@@ -165,7 +167,7 @@ def rule_text(words: Words, rule: Rule) -> str:
     return shapes[rule.tag].format(
         first=words.item(first),
         second=words.item(last),
-        containers=set_words(words, rule.containers),
+        containers=set_words(words, rule.containers, "or" if rule.tag == DENY_TAG else "and"),
     )
 
 

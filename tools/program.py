@@ -10,8 +10,7 @@ from typing import List, Optional
 import modelpath
 from limits import LOG_LIMIT
 from logfiles import Say
-from logtext import split_records
-from words import counted
+from logtext import counted, split_records
 
 ROOT = Path(modelpath.ROOT)
 PROGRAM = ROOT / "target" / "bin" / "runlog"
@@ -73,7 +72,9 @@ def run_program(program: Path, log: bytes) -> bytes:
         run = subprocess.run([str(program)], input=log, stdout=subprocess.PIPE)
     except OSError as error:
         raise Failure(NO_PROGRAM, f"cannot run '{program}': {error.strerror}") from error
-    if run.returncode != 0 and len(log) <= LOG_LIMIT:
+    if run.returncode < 0:
+        raise Failure(NO_PROGRAM, f"'{program}' was ended by signal {-run.returncode}")
+    if run.returncode > 0 and len(log) <= LOG_LIMIT:
         raise Failure(NO_PROGRAM, f"'{program}' ended with status {run.returncode}")
     return run.stdout
 
@@ -82,7 +83,9 @@ def answers_in(program: Path, log: bytes, output: bytes) -> List[str]:
     """The lines that the program wrote, which are one for each record."""
     lines = output.decode("ascii", "replace").splitlines()
     count = 1 if len(log) > LOG_LIMIT else len(split_records(log))
-    if len(lines) != count or not output.endswith(b"\n" * bool(count)):
+    if output and not output.endswith(b"\n"):
+        raise Failure(NO_PROGRAM, f"'{program}' did not write its last line to the end")
+    if len(lines) != count:
         wrote = f"wrote {counted(len(lines), 'line')} for {counted(count, 'record')}"
         raise Failure(NO_PROGRAM, f"'{program}' {wrote}")
     return lines

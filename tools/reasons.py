@@ -32,9 +32,10 @@ from tracker import (
     rule_refusals,
     substitutes,
 )
-from words import Words, joined, numbers_text, plural
+from words import Words, joined, numbers_text, plural, set_words
 
 RULE_ITEMS = ("first", "second")  # the items of a rule as fields
+ENDS = ("from", "to")  # keys that do not say what they are keys to
 
 
 class Failed(NamedTuple):
@@ -94,6 +95,8 @@ def field_words(form: Form) -> Dict[str, str]:
     words: List[str] = []
     for part in form.parts:
         key = part.keys[0].rstrip("=") if part.keys else "unused field"
+        if key in ENDS:
+            key = part.shape.partition("=")[2].lower()
         words += [key.rstrip("s") if part.size > 1 else key or "process"] * part.size
     return dict(zip(Call._fields[1:], words))
 
@@ -123,11 +126,12 @@ def cut_short(case: Case) -> List[Failed]:
     length = len(case.data)
     advice = "copy the log again, whole: reading ends here"
     if length < HEADER_LENGTH:
-        text = f"the log ends in this record's header: {length} of {HEADER_LENGTH} bytes are there"
+        where, whole = "the log ends in this record's header", HEADER_LENGTH
     else:
+        where = "the log ends in this record"
         whole = HEADER_LENGTH + int.from_bytes(case.data[1:HEADER_LENGTH], "big")
-        text = f"the log ends in this record: {length} of {whole} bytes are there"
-    return [Failed(text, advice=advice)]
+    there = "is there" if length == 1 else "are there"
+    return [Failed(f"{where}: {length} of {whole} bytes {there}", advice=advice)]
 
 
 def unknown_tag(case: Case) -> List[Failed]:
@@ -266,7 +270,8 @@ def missing_descriptor(case: Case) -> List[Failed]:
     kept = FILES if files else limits.CONTAINERS
     opened = [d for d in DESCRIPTORS if case.leads(d) in kept]
     fitting = "open one{s} with a file or pipe" if files else "open one{s}"
-    return [Failed(text, "a", opened, fitting, f"{owner} has none open: open one first")]
+    none = "no file or pipe" if files else "none"
+    return [Failed(text, "a", opened, fitting, f"{owner} has {none} open: open one first")]
 
 
 def missing(case: Case) -> List[Failed]:
@@ -286,7 +291,8 @@ def missing(case: Case) -> List[Failed]:
         return [
             Failed(text, "a", sorted(ends - {call.caller}), "container{s} linked with it", none)
         ]
-    text = f"{words.container(call.a)} is not in use"
+    state_of_it = "live" if call.a in limits.PROCESS_CONTAINERS else "in use"
+    text = f"{words.container(call.a)} is not {state_of_it}"
     return [Failed(text, "a", sorted(state.used()), "container{s} in use")]
 
 
@@ -344,7 +350,7 @@ def broken_already(case: Case) -> List[Failed]:
     if not protects(rule._replace(containers=fixed)):
         return [Failed(text, advice="load the rule before the item gets there")]
     change = "without {} in its set" if rule.tag == limits.DENY_TAG else "with {} in its set too"
-    open_now = f"{change.format(numbers_text(places))}, which it would not protect"
+    open_now = f"{change.format(set_words(words, places))}, which it would not protect"
     advice = f"it would be loaded {open_now}, or before the item gets there"
     return [Failed(text, "containers", [fixed], advice=advice, offers=[fixed])]
 
@@ -373,11 +379,16 @@ def mend(case: Case, failed: List[Failed]) -> Any:
     if case.record is None or not all(test.offers for test in failed):
         return None
     record = case.record
-    for test in failed[:-1]:
-        record = replaced(record, test.field, test.offers[0])
-    last = failed[-1]
-    others = [replaced(record, last.field, value) for value in last.offers]
-    return next((r for r in others if refusal_number(case.state, r) is None), others[0])
+    for test in failed:
+        others = [replaced(record, test.field, value) for value in test.offers]
+        record = next((other for other in others if not is_same_pipe(other)), others[0])
+    passing = (other for other in others if refusal_number(case.state, other) is None)
+    return next(passing, record)
+
+
+def is_same_pipe(record: Any) -> bool:
+    """Whether a record is a pipe whose two descriptors are one."""
+    return isinstance(record, Call) and record.kind == limits.PIPE and record.a == record.b
 
 
 def refusal_of(case: Case, number: int) -> Refusal:

@@ -8,11 +8,11 @@ from typing import Dict, Iterator, List, NamedTuple, Optional, Set
 import modelpath  # noqa: F401  (before the modules of the model)
 from explain import Explanation, explain, way_lines
 from limits import CONTAINERS, ITEMS
-from logtext import CONTAINER_NAMES, Unfit, read_number
+from logtext import CONTAINER_NAMES, Unfit, counted, read_number
 from names import Own
 from phrases import ANSWERS
 from provenance import Moment, Step
-from words import Words, counted
+from words import Words
 
 INDENT = "    "
 TOGETHER = re.compile(
@@ -45,7 +45,8 @@ def read_selection(text: str, count: int) -> Selection:
         elif run and 1 <= int(run[1]) <= int(run[3] or run[1]) <= count:
             chosen.numbers.update(range(int(run[1]), int(run[3] or run[1]) + 1))
         else:
-            raise Unfit(f"--only {part}", f"{SELECTION}; this log has records 1 to {count}")
+            has = f"records 1 to {count}" if count else "no records"
+            raise Unfit(f"--only {part}", f"{SELECTION}; this log has {has}")
     return chosen
 
 

@@ -19,6 +19,7 @@ from limits import LOG_LIMIT  # noqa: E402
 from logfiles import BAD_INPUT, FORMS_HELP, NOT_WRITTEN_HELP, STANDARD, Log, Parser  # noqa: E402
 from logfiles import add_form, read_log, run_command, speaker  # noqa: E402
 from logtext import REFUSAL_WORDS, assemble_line, record_text, split_records  # noqa: E402
+from logtext import text_lines  # noqa: E402
 from program import ROOT, Failure, answers_in, answers_of, ready_program, run_program  # noqa: E402
 
 STORY = ROOT / "logs" / "rowers.log.txt"
@@ -108,8 +109,10 @@ def rows_of(log: Log) -> List[Row]:
     records = split_records(log.data)
     if log.text is not None:
         rows = []
-        for line in log.text.decode("utf-8-sig").rstrip().split("\n"):
-            rows.append(Row(assemble_line(line), line.partition("#")[2][1:].rstrip()))
+        for line in text_lines(log.text.rstrip()) if log.text.strip() else []:
+            said = line.decode("utf-8-sig")
+            comment = said.partition("#")[2].removeprefix(" ").rstrip()
+            rows.append(Row(assemble_line(said), comment))
         if [row.record for row in rows if row.record] == records:
             return rows
     return [Row(record, "") for record in records]

@@ -29,7 +29,7 @@ from tracker import State, Tracker
 DEFAULT_SEED = 20260
 LOGTOOL = [sys.executable, os.path.join(modelpath.ROOT, "tools", "logtool")]
 RUN_B_FAULT = "found 2 bytes of record 9, expected at least 3; the log is cut short"
-TOO_LONG = "found more than 65536 bytes"
+TOO_LONG = "found more than 65,536 bytes"
 COMMANDS = {  # each with the options that it cannot do without here
     "assemble": [],
     "disassemble": [],
@@ -91,6 +91,7 @@ OTHER_TEXTS = [
     ("# only a comment\n\n   \n", ""),
     ("\ufeffexit 0", "10 0005 12 00 00 00 00"),
     ("\texit   0\r\n", "10 0005 12 00 00 00 00"),
+    ("# a comment\rexit 0\r", "10 0005 12 00 00 00 00"),
     ("open descriptor=1 name=5 0 # any order", "10 0005 02 00 05 01 00"),
     ("device 0 descriptor=1 device=1", "10 0005 05 00 01 01 00"),
     ("label container=radio item=1", "10 0005 13 00 02 01 00"),

@@ -21,11 +21,6 @@ def numbers_text(numbers: Iterable[int]) -> str:
     return set_text(numbers, comma=", ", dash=" to ")
 
 
-def counted(count: int, word: str) -> str:
-    """How many of something: 1 record, 2 records."""
-    return f"{count} {word}{'' if count == 1 else 's'}"
-
-
 def plural(word: str, numbers: List[int]) -> str:
     """A word before its numbers."""
     return f"{word}{'s' if len(numbers) > 1 else ''} {numbers_text(numbers)}"
@@ -61,9 +56,9 @@ class Words:
         """A container with its own name."""
         return self._named(self.plain(number), "container", number)
 
-    def containers(self, numbers: Iterable[int]) -> str:
+    def containers(self, numbers: Iterable[int], last: str = "and") -> str:
         """Containers in a row."""
-        return joined(self.container(number) for number in sorted(numbers))
+        return joined((self.container(number) for number in sorted(numbers)), last)
 
     def process(self, number: int) -> str:
         """A process with its own name."""
@@ -98,9 +93,9 @@ def short(number: int) -> str:
     return CONTAINER_NAMES.word(number)
 
 
-def set_words(words: Words, containers: Iterable[int]) -> str:
+def set_words(words: Words, containers: Iterable[int], last: str = "and") -> str:
     """The containers of a rule; runs stay runs."""
     found = sorted(containers)
     if len(found) <= MOST_NAMED:
-        return words.containers(found)
+        return words.containers(found, last)
     return f"containers {numbers_text(found)}"

@@ -205,7 +205,7 @@ def test_bad_program(checks: Checks, program: Optional[str]) -> None:
             check_bad(checks, f"a program that fails, {words}", result, 3, ["status 7"])
         fails.write_text("#!/bin/sh\necho allow\n")
         result = Room(here.folder, "./fails").run([])
-        check_bad(checks, "a program that leaves out answers", result, 3, ["1 lines for 30"])
+        check_bad(checks, "a program that leaves out answers", result, 3, ["1 line for 30 records"])
 
 
 def test_closed_output(checks: Checks, program: Optional[str]) -> None:

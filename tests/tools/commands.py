@@ -3,9 +3,10 @@
 import os
 import resource
 import subprocess
+import sys
 from typing import Any, Dict, List, NamedTuple, Optional
 
-from session import ROOT, Session
+from session import ROOT, Session, in_process
 
 SECONDS = 60
 NAMELESS = ["--names", "/dev/null"]
@@ -20,15 +21,30 @@ class Ran(NamedTuple):
     message: str
 
 
-def command_words(session: Session, words: str) -> List[str]:
+PATHS = {
+    "runlog": [str(ROOT / "runlog")],
+    "logtool": [sys.executable, str(ROOT / "tools" / "logtool")],
+    "modelrun": [sys.executable, str(ROOT / "model" / "modelrun")],
+}
+
+
+def split_words(session: Session, words: str) -> List[str]:
     """The words of a command; the program at hand is run, so that none is built."""
-    name, *rest = words.split()
-    chosen = {"runlog": [str(ROOT / "runlog"), "--program", session.runnable]}
-    chosen["logtool"] = [str(ROOT / "tools" / "logtool")]
-    chosen["modelrun"] = [str(ROOT / "model" / "modelrun")]
-    if rest[:1] == ["explain"]:
-        rest += ["--program", session.runnable]
-    return [*chosen[name], *rest]
+    found = words.split()
+    runs = found[0] == "runlog" or found[1:2] == ["explain"]
+    return [*found, "--program", session.runnable] if runs else found
+
+
+def command_words(session: Session, words: str) -> List[str]:
+    """A command with its path."""
+    name, *rest = split_words(session, words)
+    return [*PATHS[name], *rest]
+
+
+def inside(session: Session, words: str, data: bytes = b"") -> Ran:
+    """Run a command in this process, which is quicker."""
+    name, *rest = split_words(session, words)
+    return Ran(*in_process(name, rest, data))
 
 
 def environment(more: Optional[Dict[str, str]] = None) -> Dict[str, str]:

@@ -41,7 +41,7 @@ SENTENCES = [
         ],
     ),
     (LIVE + "device 0 descriptor=1 device=panel", ["opens device 1 (panel) as descriptor 1"]),
-    (FILE + "dup 0 from=0 to=7", ["copies descriptor 0, file 24 to descriptor 7"]),
+    (FILE + "dup 0 from=0 to=7", ["copies descriptor 0, file 24, to descriptor 7"]),
     (
         FILE + "close 0 descriptor=0",
         ["closes descriptor 0, file 24", "0 is closed; before: file 24"],
@@ -95,9 +95,10 @@ SENTENCES = [
     ),
     (
         "separate items=1,2 inhibit",
-        ["may hold both item 1 and item 2", "inhibited", "1 of 32 rules are held"],
+        ["may hold both item 1 and item 2", "inhibited", "1 of 32 rules is held"],
     ),
     ("confine item=1 to=24,process0 inhibit", ["item 1 may be in process 0 and container 24 only"]),
+    ("forbid item=1 in=24,process0 inhibit", ["item 1 may not be in process 0 or container 24"]),
     ("forbid item=1 in=none inhibit", ["item 1 may be anywhere, for the set is empty"]),
     ("confine item=1 to=none inhibit", ["item 1 may be nowhere, for the set is empty"]),
 ]
@@ -117,7 +118,8 @@ IDLE = [
 
 # Every row of the refusals.
 REFUSED = [
-    (LIVE + "raw 10 00", ["refused 1 (cut short)", "2 of 3 bytes", "copy the log again"]),
+    (LIVE + "raw 10", ["refused 1 (cut short)", "1 of 3 bytes is there"]),
+    (LIVE + "raw 10 00", ["refused 1 (cut short)", "2 of 3 bytes are there", "copy the log again"]),
     (LIVE + "raw 10 0005 0100", ["refused 1 (cut short)", "5 of 8 bytes are there"]),
     (
         "raw 14 0000",
@@ -165,6 +167,9 @@ REFUSED = [
         ["substitute 8 is out of range; ones for action 1 are 0 to 7, 24 to 63"],
     ),
     ("raw 12 0004 01020003", ["substitute 3 is out of range; the only one for action 0 is 0"]),
+    (FILE + "dup 0 from=0 to=32", ["descriptor 32 is out of range; numbers for dup there are"]),
+    (FILE + "link 0 from=128 to=6", ["name 128 is out of range; numbers for link there are"]),
+    (LIVE + "device 0 descriptor=1 device=9", ["process 0 would open device 9 as descriptor 1"]),
     (
         "exit 4",
         ["refused 6 (dead process)", "process 4 is not live; no process is live: start one first"],
@@ -199,6 +204,11 @@ REFUSED = [
         ["refused 8 (missing)", "descriptor 2 of process 0 is closed; open ones are 0, 1"],
     ),
     (LIVE + "read 0 descriptor=2", ["process 0 has none open: open one first"]),
+    (
+        LIVE + "device 0 descriptor=1 device=panel\ntruncate 0 descriptor=9",
+        ["descriptor 9 of process 0 is closed; process 0 has no file or pipe open: open one first"],
+    ),
+    (FILE + "label container=process5 item=1", ["process 5 is not live; containers in use are"]),
     (PANEL + "truncate 0 descriptor=2", ["closed; the only open one with a file or pipe is 0"]),
     (FILE + "open 0 name=6 descriptor=1", ["name 6 is unbound; the only bound one is 5"]),
     (LIVE + "unlink 0 name=6", ["name 6 is unbound; no name is bound: create a file first"]),
@@ -246,7 +256,8 @@ REFUSED = [
         [
             "refused 12 (broken already)",
             "process 0 and file 24 hold item 1 now",
-            "it would be loaded without 8, 24 in its set, which it would not protect, or before",
+            "it would be loaded without process 0 and file 24 in its set, which it would not "
+            "protect, or before the item gets there",
             "the way of item 1 to process 0:",
             "record 3: it comes in from outside, by a label of file 24",
             "record 5: process 0 reads it from file 24",
@@ -255,7 +266,7 @@ REFUSED = [
     ),
     (
         HELD + "confine item=1 to=25 inhibit",
-        ["it would be loaded with 24 in its set too", "to=24,25"],
+        ["it would be loaded with file 24 in its set too", "to=24,25"],
     ),
     (
         HELD + "label container=24 item=2\nseparate items=1,2 inhibit",
@@ -281,6 +292,9 @@ OFFERS = [
     (LIVE + "pipe 0 descriptors=3,3 container=24", ["allow: pipe 0 descriptors=3,0 container=24"]),
     (LIVE + "pipe 0 descriptors=32,0 container=24", ["allow: pipe 0 descriptors=1,0 container=24"]),
     (FILE + "pipe 0 descriptors=0,0 container=24", ["allow: pipe 0 descriptors=1,2 container=25"]),
+    (FILE + "pipe 0 descriptors=32,0 container=24", ["allow: pipe 0 descriptors=1,2 container=25"]),
+    (LIVE + "pipe 0 descriptors=32,9 container=9", ["allow: pipe 0 descriptors=0,9 container=24"]),
+    (LIVE + "pipe 0 descriptors=32,32 container=9", ["allow: pipe 0 descriptors=0,1 container=24"]),
     (
         FILE + "create 0 name=128 descriptor=32 container=23",
         ["allow: create 0 name=0 descriptor=1 container=25"],
@@ -468,6 +482,10 @@ def test_offers(session: Session) -> None:
         offered = [text[len(front) :] for _, text in said.why if text.startswith(front)]
         session.checks.equal(name, offered, wanted)
         others = [text for _, text in said.why if "would be loaded" in text]
+        texts = [text for _, text in said.why]
+        session.checks.equal(f"{name}: lines said twice", len(texts) - len({*texts}), 0)
+        clash = [text for text in texts if "refused with 9" in text]
+        session.checks.equal(f"{name}: no clash of its own making", clash, [])
         protects = any("rule 0: " in offer for offer in wanted)
         session.checks.equal(f"{name}: a rule is spoken of", bool(others), protects)
 
@@ -508,6 +526,9 @@ def test_way(session: Session) -> None:
     way = modelled("--way", "26,1", "--only", "11").output
     for part in ("after record 11, file 26", "does not hold item 1"):
         session.checks.true(f"--way, earlier: {part}", part in way, way)
+    way = modelled("--way", "26,1", "--only", "modify").output
+    wanted = "no record of this log is one of: modify\n"
+    session.checks.equal("--way after no record", way, wanted)
     way = logtool("explain", "-", "--model-only", "--way", "panel,0").output
     wanted = "after record 0, device 1 (panel) does not hold item 0; it holds nothing\n"
     session.checks.equal("--way in an empty log", way, wanted)
@@ -517,7 +538,7 @@ def test_bad_options(session: Session) -> None:
     """Options that cannot be used."""
     for words, part in [
         (["--only", "0"], "'--only 0'"),
-        (["--only", "31"], "records 1 to 30"),
+        (["--only", "31"], "this log has records 1 to 30"),
         (["--only", "9-7"], "'--only 9-7'"),
         (["--only", "denied"], "allow, rule, inhibit, modify, refused"),
         (["--way", "26"], "as in 26,1"),
@@ -527,6 +548,9 @@ def test_bad_options(session: Session) -> None:
         result = modelled(*words)
         good = result.status == 2 and not result.output and part in result.message
         session.checks.true(f"explain {words}", good, str(result))
+    result = logtool("explain", "-", "--model-only", "--only", "1")
+    good = result.status == 2 and "this log has no records" in result.message
+    session.checks.true("explain --only 1 of an empty log", good, str(result))
 
 
 def test_widths(session: Session) -> None:
@@ -584,17 +608,29 @@ def test_wrong_program(session: Session) -> None:
         good = "the program answers otherwise: allow" in result.output
         session.checks.true("a wrong program: the record is marked", good, result.output)
         script = f"#!/bin/sh\n{session.standin} | sed 's/^inhibit/allow/'\n"
-        counts = {"rowers": "and so does 1 more record;", "evaluation": "and so do 2 more records;"}
+        counts = {"rowers": "1 more record differs", "evaluation": "2 more records differ"}
         for name, more in counts.items():
             other = Path(folder) / name
             other.write_text(script)
             other.chmod(0o755)
             result = logtool("explain", str(LOGS / f"{name}.log.txt"), "--program", str(other))
-            session.checks.true(f"{name}: {more}", more in result.message, result.message)
+            good = f", and {more};" in result.message
+            session.checks.true(f"{name}: {more}", good, result.message)
         fails = Path(folder) / "fails"
         fails.write_text("#!/bin/sh\nexit 7\n")
         fails.chmod(0o755)
-        for program, part in ((str(fails), "status 7"), (str(fails) + "x", "cannot run")):
+        killed = Path(folder) / "killed"
+        killed.write_text("#!/bin/sh\nkill -9 $$\n")
+        unended = Path(folder) / "unended"
+        unended.write_text(f"#!/bin/sh\n{session.standin} | head -c -1\n")
+        for path in (killed, unended):
+            path.chmod(0o755)
+        for program, part in (
+            (str(fails), "status 7"),
+            (str(fails) + "x", "cannot run"),
+            (str(killed), "was ended by signal 9"),
+            (str(unended), "did not write its last line to the end"),
+        ):
             result = logtool("explain", log, "--program", program)
             good = (
                 result.status == 3 and part in result.message and "--model-only" in result.message

@@ -5,7 +5,7 @@ from pathlib import Path
 from typing import List
 
 from session import LOGS, STORIES, Session, story_log
-from commands import NAMELESS, Ran, run
+from commands import NAMELESS, Ran, environment, inside, run
 from generate import MIXES, generate_records
 from logfiles import is_text
 from logtext import FORMS, disassemble
@@ -28,7 +28,9 @@ FRONTS = [
     ("# \u00fcber\n".encode(), True),
     (b"raw 10 0005 0100000000\n", True),
     (b"start 0\n" + bytes(100), True),  # a disk that filled up, or lost its power
-    (b"# \x1b[0m\n", False),
+    (b"# \x1b[0m\n", True),
+    (b"start\x00 0\n", True),
+    (b"x", True),
     (b"\x10", False),
     (b"\x10\x00", False),
     (b"\x10\x00\x05\x01\x00\x00\x00\x00", False),
@@ -101,9 +103,9 @@ def test_ways(session: Session) -> None:
             for words in READING:
                 found = []
                 for path in files:
-                    ran = run(session, words.format(path))
+                    ran = inside(session, words.format(path))
                     found.append(without_name(ran, str(path)))
-                    ran = run(session, words.format("-"), input=path.read_bytes())
+                    ran = inside(session, words.format("-"), data=path.read_bytes())
                     found.append(without_name(ran, "-"))
                 check_alike(session, f"{words} on {story}", found)
 
@@ -115,7 +117,7 @@ def test_pictures(session: Session) -> None:
             out = Path(folder) / f"a.{ending}"
             drawn = []
             for path in ways(Path(folder), "rowers"):
-                ran = run(session, f"logtool draw - -o {out}", input=path.read_bytes())
+                ran = inside(session, f"logtool draw - -o {out}", data=path.read_bytes())
                 session.checks.equal(f"draw - -o .{ending} of {path.name}", ran, Ran(0, b"", ""))
                 drawn.append(out.read_bytes())
             session.checks.true(f"pictures .{ending}: alike", len(set(drawn)) == 1)
@@ -125,13 +127,13 @@ def test_disassemble(session: Session) -> None:
     """The text of a text is that of its log; comments that are left out are named."""
     for story in STORIES:
         log, text = story_log(story), (LOGS / f"{story}.log.txt").read_bytes()
-        of_bytes = run(session, "logtool disassemble -", input=log)
-        of_text = run(session, "logtool disassemble -", input=text)
+        of_bytes = inside(session, "logtool disassemble -", data=log)
+        of_text = inside(session, "logtool disassemble -", data=text)
         session.checks.equal(f"disassemble {story}: bytes", of_bytes.output, disassemble(log))
         session.checks.equal(f"disassemble {story}: text", of_text.output, disassemble(log))
         good = "is a text already" in of_text.message and "already" not in of_bytes.message
         session.checks.true(f"disassemble {story}: message", good, of_text.message)
-        again = run(session, "logtool disassemble -", input=of_text.output)
+        again = inside(session, "logtool disassemble -", data=of_text.output)
         session.checks.equal(f"disassemble {story}: again", again.output, of_text.output)
         session.checks.true("a text without loss", "already" not in again.message, again.message)
 
@@ -142,20 +144,52 @@ def test_settled(session: Session) -> None:
     for words in READING:
         form = words.format("-")
         same = [
-            run(session, f"{form} --text", input=story.read_bytes()),
-            run(session, f"{form} --bytes", input=story_log("rowers")),
+            inside(session, f"{form} --text", data=story.read_bytes()),
+            inside(session, f"{form} --bytes", data=story_log("rowers")),
         ]
         check_alike(session, f"{form}, the form that it has", same)
-        ran = run(session, f"{form} --text", input=story_log("rowers"))
+        ran = inside(session, f"{form} --text", data=story_log("rowers"))
         good = ran.status == 2 and "standard input, line 1: found" in ran.message
         good = good and not ran.output and "--bytes" not in ran.message
         session.checks.true(f"{form} --text of bytes", good, str(ran))
-        ran = run(session, f"{form} --text --bytes", input=b"")
+        ran = inside(session, f"{form} --text --bytes", data=b"")
         session.checks.equal(f"{form} --text --bytes", (ran.status, ran.output), (2, b""))
-    ran = run(session, "modelrun answers - --bytes", input=story.read_bytes())
+    ran = inside(session, "modelrun answers - --bytes", data=story.read_bytes())
     session.checks.equal("a text as bytes", ran.output, b"refused 1\n")
-    ran = run(session, f"modelrun holders {story} 1")
+    ran = inside(session, f"modelrun holders {story} 1")
     session.checks.equal("holders of item 1 in the story", ran.output, b"1 26\n")
+
+
+def test_cut_short(session: Session) -> None:
+    """Queries of a log that is cut short are answered, and it is said."""
+    log = story_log("rowers") + b"\x10"
+    for words in ("modelrun state -", "modelrun items - 26", "modelrun holders - 1"):
+        whole, cut = inside(session, words, data=log[:-1]), inside(session, words, data=log)
+        session.checks.equal(f"{words}, cut short: output", cut.output, whole.output)
+        said = "standard input: found 1 byte of record 31, expected at least 3; "
+        good = cut.status == 1 and said in cut.message and not whole.message
+        session.checks.true(f"{words}, cut short: message", good, str(cut))
+
+
+def test_characters(session: Session) -> None:
+    """Comments and names go out whatever the output's characters are."""
+    text = "start 0 # \u2192 caf\u00e9\n#beat\nexit 0 #radio\n".encode()
+    with tempfile.TemporaryDirectory() as folder:
+        names = Path(folder) / "names"
+        names.write_text("process 0 = \u2192\n", encoding="utf-8")
+        for encoding in ("utf-8", "latin-1", "ascii"):
+            env = environment({"PYTHONIOENCODING": encoding})
+            for words in ("runlog --show -", f"logtool explain - --names {names}"):
+                ran = run(session, words, input=text, env=env)
+                arrow = "\u2192".encode(encoding, "backslashreplace")
+                good = (ran.status, ran.message) == (0, "") and arrow in ran.output
+                session.checks.true(f"{words}, {encoding}", good, str(ran))
+    ran = run(session, "runlog --show -", input=text)
+    lines = [line.split()[-1] for line in ran.output.decode().splitlines()]
+    session.checks.equal("runlog --show: comments", lines, ["caf\u00e9", "beat", "radio"])
+    for text in (b"", b"\n"):
+        ran = run(session, "runlog --show -", input=text)
+        session.checks.equal(f"runlog --show of {text!r}", ran, Ran(0, b"", ""))
 
 
 def test_bad_texts(session: Session) -> None:
@@ -164,10 +198,11 @@ def test_bad_texts(session: Session) -> None:
         (b"start 0\nopne 0\n", "line 2: found 'opne'"),
         (b"start 0\n" + bytes(9), "line 2: found '\\x00"),
         (b"start 0\n# caf\xe9\n", "line 2: found byte e9 hex, expected text in UTF-8"),
-        (b"\xff\xfes\x00", "line 1: found byte ff hex, expected text in UTF-8"),
+        (b"start\x00 0\n", "line 1: found 'start\\x00'"),
+        (b"\xff\xfes\x00", "found a text in UTF-16, expected UTF-8; save it as UTF-8"),
     ):
         for words in READING:
-            ran = run(session, words.format("-"), input=text)
+            ran = inside(session, words.format("-"), data=text)
             good = ran.status == 2 and not ran.output and part in ran.message
-            good = good and "correct the line" in ran.message and "add --bytes" in ran.message
+            good = good and "add --bytes" in ran.message and "Traceback" not in ran.message
             session.checks.true(f"{words} on {text!r}", good, str(ran))

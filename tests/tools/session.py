@@ -7,13 +7,14 @@ from importlib.machinery import SourceFileLoader
 from importlib.util import module_from_spec, spec_from_loader
 from pathlib import Path
 from types import ModuleType
-from typing import List, NamedTuple, Optional
+from typing import List, NamedTuple, Optional, Tuple
 from unittest import mock
 
 ROOT = Path(__file__).resolve().parent.parent.parent
 sys.path[:0] = [str(ROOT / part) for part in ("model", "tools", "tests/logtests")]
 
 from checks import Checks  # noqa: E402
+from logfiles import run_command  # noqa: E402
 from logtext import assemble  # noqa: E402
 from names import Own, read_names  # noqa: E402
 from provenance import Step, steps_of  # noqa: E402
@@ -68,24 +69,32 @@ class Result(NamedTuple):
     message: str
 
 
-def load_logtool() -> ModuleType:
-    """The command line as a module."""
-    loader = SourceFileLoader("logtool", str(ROOT / "tools" / "logtool"))
-    module = module_from_spec(spec_from_loader("logtool", loader))
+def load_command(name: str, path: str) -> ModuleType:
+    """A command line as a module."""
+    loader = SourceFileLoader(f"{name}_command", str(ROOT / path))
+    module = module_from_spec(spec_from_loader(f"{name}_command", loader))
     loader.exec_module(module)
     return module
 
 
-LOGTOOL = load_logtool()
+COMMANDS = {
+    "runlog": load_command("runlog", "tools/runlog.py"),
+    "logtool": load_command("logtool", "tools/logtool"),
+    "modelrun": load_command("modelrun", "model/modelrun"),
+}
+
+
+def in_process(name: str, words: List[str], data: bytes = b"") -> Tuple[int, bytes, str]:
+    """Run a command in this process with standard input: its status, output and messages."""
+    given, output, errors = io.TextIOWrapper(io.BytesIO(data)), io.BytesIO(), io.StringIO()
+    stdout = io.TextIOWrapper(output, encoding="utf-8", write_through=True)
+    command = COMMANDS[name]
+    with mock.patch.multiple(sys, stdin=given, stdout=stdout, stderr=errors):
+        status = run_command(command.run, words, command.say)
+    return status, output.getvalue(), errors.getvalue()
 
 
 def logtool(*words: str, data: bytes = b"") -> Result:
     """Run logtool in this process with standard input."""
-    given, output, errors = io.TextIOWrapper(io.BytesIO(data)), io.BytesIO(), io.StringIO()
-    stdout = io.TextIOWrapper(output, encoding="utf-8", write_through=True)
-    with mock.patch.multiple(sys, stdin=given, stdout=stdout, stderr=errors):
-        try:
-            status = LOGTOOL.main(list(words))
-        except SystemExit as end:
-            status = end.code
-    return Result(status, output.getvalue().decode(), errors.getvalue())
+    status, output, message = in_process("logtool", list(words), data)
+    return Result(status, output.decode(), message)

@@ -5,9 +5,11 @@ import stat
 import subprocess
 import tempfile
 from pathlib import Path
+from unittest import mock
 
 from session import LOGS, Session, story_log
-from commands import UNBUFFERED, Ran, environment, run
+from commands import UNBUFFERED, Ran, command_words, environment, run
+from logfiles import BadInput, write_file
 
 STORY = LOGS / "rowers.log.txt"
 NOT_WRITTEN = 5
@@ -52,11 +54,11 @@ ENDLESS = [
     ("logtool disassemble /dev/full", 2, "found more than 4,194,304 bytes"),
     ("logtool assemble /dev/zero", 2, "found more than 4,194,304 bytes"),
     ("logtool assemble --text /dev/zero", 2, "found more than 4,194,304 bytes"),
-    ("logtool show /dev/zero", 2, "found more than 65536 bytes"),
-    ("logtool explain /dev/zero --model-only", 2, "found more than 65536 bytes"),
-    ("logtool draw /dev/zero -o /dev/null.svg", 2, "found more than 65536 bytes"),
+    ("logtool show /dev/zero", 2, "found more than 65,536 bytes"),
+    ("logtool explain /dev/zero --model-only", 2, "found more than 65,536 bytes"),
+    ("logtool draw /dev/zero -o /dev/null.svg", 2, "found more than 65,536 bytes"),
     (f"logtool explain {STORY} --names /dev/zero", 2, "/dev/zero: found more than 4,194,304"),
-    ("modelrun state /dev/zero", 2, "at most 65536 bytes"),
+    ("modelrun state /dev/zero", 2, "at most 65,536 bytes"),
     ("modelrun holders --text /dev/zero 1", 2, "found more than 4,194,304 bytes"),
     ("runlog /dev/zero", 1, "more than 65,536 bytes"),
     ("runlog --text /dev/zero", 2, "found more than 4,194,304 bytes"),
@@ -90,6 +92,27 @@ def test_full_output(session: Session) -> None:
                     ran = run(session, words, stdout=file, env=environment(more), most=most)
                 check_lost(session, f"{name}, one byte too few", ran)
                 session.checks.equal(f"{name}: bytes there", out.stat().st_size, most)
+
+
+def test_statuses_without_messages(session: Session) -> None:
+    """Where standard error cannot be written either, the status still tells."""
+    for words, status in (
+        (f"runlog {STORY}", NOT_WRITTEN),
+        (f"logtool show {STORY}", NOT_WRITTEN),
+        ("runlog no-such-file", 2),
+        ("logtool show no-such-file", 2),
+        ("modelrun state no-such-file", 2),
+        (f"runlog {STORY} --program no-such-program", 3),
+    ):
+        with open("/dev/full", "wb") as full:
+            for unbuffered, more in UNBUFFERED.items():
+                streams = {"stdout": full, "stderr": full, "env": environment(more)}
+                ran = subprocess.run(command_words(session, words), timeout=60, **streams)
+                name = f"{words}, all full, unbuffered {unbuffered}"
+                session.checks.equal(name, ran.returncode, status)
+                streams["preexec_fn"] = lambda: os.close(2)
+                ran = subprocess.run(command_words(session, words), timeout=60, **streams)
+                session.checks.equal(f"{name}, no standard error", ran.returncode, status)
 
 
 def test_program_says_so(session: Session) -> None:
@@ -151,6 +174,50 @@ def test_new_files(session: Session) -> None:
         session.checks.true("draw -o DEVICE: a device still", good)
         ran = run(session, f"logtool assemble {STORY} -o /dev/full")
         check_lost(session, "assemble -o /dev/full", ran)
+
+
+def message_of(path: str) -> str:
+    """What is said of a place that cannot be written."""
+    try:
+        write_file(path, b"new")
+    except BadInput as error:
+        return str(error)
+    return ""
+
+
+def test_inputs_stay(session: Session) -> None:
+    """The input is not replaced, by whatever name, nor a file that must not be written."""
+    with tempfile.TemporaryDirectory() as folder:
+        path = Path(folder) / "a.txt"
+        path.write_bytes(STORY.read_bytes())
+        for source in ("-", str(path)):
+            with open(path, "rb") as file:
+                ran = run(session, f"logtool assemble {source} -o {path}", stdin=file)
+            good = ran.status == 2 and "the input itself" in ran.message
+            session.checks.true(f"assemble {source} -o the same", good, str(ran))
+        session.checks.true("the input stays", path.read_bytes() == STORY.read_bytes())
+        with mock.patch("os.access", return_value=False):
+            message = message_of(str(path))
+        wanted = f"'{path}': found: Permission denied; expected a place to write after -o"
+        session.checks.equal("a file without the right to write", message, wanted)
+        session.checks.true("it stays", path.read_bytes() == STORY.read_bytes())
+        session.checks.equal("files", os.listdir(folder), ["a.txt"])
+        for name in ("", f"{folder}/no/a", folder, f"{path}/a", f"{folder}/{'a' * 300}"):
+            good = message_of(name).startswith(f"'{name}': found: ")
+            session.checks.true(f"-o '{name[:60]}'", good, message_of(name))
+
+
+def test_other_names_of_standard_output(session: Session) -> None:
+    """-o /dev/stdout adds to what stands there, as standard output does."""
+    with tempfile.TemporaryDirectory() as folder:
+        path = Path(folder) / "all"
+        for words in ("/dev/stdout", "-", "/dev/fd/1"):
+            path.write_bytes(OLD)
+            with open(path, "ab") as file:
+                ran = run(session, f"logtool assemble {STORY} -o {words}", stdout=file)
+            session.checks.equal(f"-o {words}", ran.status, 0)
+            good = path.read_bytes() == OLD + story_log("rowers")
+            session.checks.true(f"-o {words}: the old content is there", good)
 
 
 def test_endless_inputs(session: Session) -> None:
