@@ -1,4 +1,4 @@
-"""The commands on logs as processes of their own: runlog, logtool and modelrun."""
+"""The commands on logs, as processes of their own and in this one: runlog, logtool, modelrun."""
 
 import os
 import resource
@@ -31,8 +31,10 @@ PATHS = {
 def split_words(session: Session, words: str) -> List[str]:
     """The words of a command; the program at hand is run, so that none is built."""
     found = words.split()
-    runs = found[0] == "runlog" or found[1:2] == ["explain"]
-    return [*found, "--program", session.runnable] if runs else found
+    chosen = ["--program", session.runnable]
+    if found[0] == "runlog":
+        return [found[0], *chosen, *found[1:]]
+    return [*found, *chosen] if found[1:2] == ["explain"] else found
 
 
 def command_words(session: Session, words: str) -> List[str]:
@@ -55,16 +57,15 @@ def environment(more: Optional[Dict[str, str]] = None) -> Dict[str, str]:
 
 def run(session: Session, words: str, **given: Any) -> Ran:
     """Run a command; a limit is on the bytes of each file that it writes, or on its memory."""
-    limits = {resource.RLIMIT_FSIZE: given.pop("most", None), resource.RLIMIT_AS: None}
-    limits[resource.RLIMIT_AS] = given.pop("memory", None)
+    most, memory = given.pop("most", None), given.pop("memory", None)
 
-    def limit() -> None:
-        for sort, most in limits.items():
-            if most is not None:
-                resource.setrlimit(sort, (most, most))
+    def set_limits() -> None:
+        for sort, limit in ((resource.RLIMIT_FSIZE, most), (resource.RLIMIT_AS, memory)):
+            if limit is not None:
+                resource.setrlimit(sort, (limit, limit))
 
     streams = {"stdout": subprocess.PIPE, "stderr": subprocess.PIPE, "env": environment()}
     made = subprocess.run(
-        command_words(session, words), preexec_fn=limit, timeout=SECONDS, **{**streams, **given}
+        command_words(session, words), preexec_fn=set_limits, timeout=SECONDS, **{**streams, **given}
     )
     return Ran(made.returncode, made.stdout or b"", made.stderr.decode())
