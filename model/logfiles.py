@@ -22,7 +22,8 @@ from records import read_frame
 STANDARD = "-"
 INPUT_LIMIT = 64 * LOG_LIMIT  # bytes of any input: a text is longer than its log
 
-# Exit statuses that all commands share.
+# Exit statuses that commands share.
+FAULTY_LOG = 1
 BAD_INPUT = 2
 NOT_WRITTEN = 5
 INTERRUPTED = 128 + signal.SIGINT
@@ -40,7 +41,7 @@ BLANKS = b" \t\n\v\f\r"
 CONTROLS = frozenset({*range(32), 127} - {*BLANKS})
 UTF_16_MARKS = (b"\xff\xfe", b"\xfe\xff")
 
-# What the system says of a place where there is no room.
+# What the system says where a file cannot be written whole.
 FULL = (errno.ENOSPC, errno.EDQUOT, errno.EFBIG, errno.EIO)
 
 Say = Callable[[str], None]
@@ -168,6 +169,12 @@ def read_log(path: str, form: str = "", whole: bool = False) -> Log:
     return log_of_text(path, data, form) if text else Log(data, size)
 
 
+def too_long(path: str) -> str:
+    """What is said of a log that is too long to be run."""
+    found = f"found more than {LOG_LIMIT:,} bytes, expected at most that many"
+    return f"{shown_name(path)}: {found}; a longer log gets no answers: keep its first records only"
+
+
 def cut_short(path: str, log: bytes) -> str:
     """What is said of a log whose last record is not whole; nothing if it is."""
     records = split_records(log)
@@ -179,6 +186,24 @@ def cut_short(path: str, log: bytes) -> str:
         whole = str(HEADER_LENGTH + int.from_bytes(last[1:HEADER_LENGTH], "big"))
     found = f"found {counted(len(last), 'byte')} of record {len(records)}, expected {whole}"
     return f"{shown_name(path)}: {found}; the log is cut short: copy it again, whole"
+
+
+def read_runnable(path: str, form: str) -> bytes:
+    """The bytes of a log that is not too long to be run."""
+    log = read_log(path, form)
+    if log.too_long:
+        raise BadInput(too_long(path))
+    return log.data
+
+
+def log_status(path: str, log: bytes, say: Say) -> int:
+    """The status of a log that was dealt with; it is said if the log is cut short or too long."""
+    message = too_long(path) if len(log) > LOG_LIMIT else cut_short(path, log)
+    if not message:
+        return 0
+    sys.stdout.flush()
+    say(message)
+    return FAULTY_LOG
 
 
 # The command line.

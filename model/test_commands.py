@@ -104,7 +104,7 @@ def test_bad_input(checks: Checks, options: Options) -> None:
     check_bad(checks, ["items", "-", "x"], "from 0 to 63")
     check_bad(checks, ["holders", "-", "-1"], "")
     check_bad(checks, ["holders", "-", "9" * 5000], "from 0 to 63")
-    check_bad(checks, ["state", "-"], "at most 65,536 bytes", bytes(LOG_LIMIT + 1))
+    check_bad(checks, ["state", "-"], "found more than 65,536 bytes", bytes(LOG_LIMIT + 1))
     check_bad(checks, ["generate", "--seed", "-1"], "from 0 to")
     check_bad(checks, ["generate", "--records", "100001"], "from 0 to 100000")
     check_bad(checks, ["generate", "--mix", "other"], "hostile")

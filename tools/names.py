@@ -5,6 +5,7 @@ from typing import Dict, Tuple
 
 import modelpath  # noqa: F401  (before the modules of the model)
 from limits import CONTAINERS, ITEMS, NAMES, PROCESSES, process_container
+from logfiles import STANDARD, BadInput, read_bytes, shown_name
 from logtext import CONTAINER_NAMES, NO_NAMES, BadLine, Unfit, read_number, text_lines
 
 LONGEST = 60  # characters of an own name
@@ -84,3 +85,19 @@ def read_names(text: bytes) -> Own:
         except Unfit as error:
             raise BadLine(f"line {number}: {error}") from error
     return own
+
+
+def read_own_names(chosen: str, log: str) -> Own:
+    """The names of the option --names, or those beside the log, if there are any."""
+    path = chosen or ("" if log == STANDARD else beside(log))
+    if not path or (not chosen and not os.path.exists(path)):
+        return NO_OWN
+    if chosen == STANDARD and log == STANDARD:
+        raise BadInput("--names -: found standard input twice, expected a file of names")
+    other = "" if chosen else "; --names /dev/null uses no names"
+    try:
+        return read_names(read_bytes(path))
+    except BadLine as error:
+        raise BadInput(f"{shown_name(path)}, {error}; correct the line{other}") from error
+    except BadInput as error:
+        raise BadInput(f"{error}{other}") from error

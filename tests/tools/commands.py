@@ -9,7 +9,7 @@ from typing import Any, Dict, List, NamedTuple, Optional
 from session import ROOT, Session, in_process
 
 SECONDS = 60
-NAMELESS = ["--names", "/dev/null"]
+NAMELESS = "--names /dev/null"
 UNBUFFERED = {"0": {}, "1": {"PYTHONUNBUFFERED": "1"}}  # how Python writes to standard output
 
 
@@ -65,7 +65,6 @@ def run(session: Session, words: str, **given: Any) -> Ran:
                 resource.setrlimit(sort, (limit, limit))
 
     streams = {"stdout": subprocess.PIPE, "stderr": subprocess.PIPE, "env": environment()}
-    made = subprocess.run(
-        command_words(session, words), preexec_fn=set_limits, timeout=SECONDS, **{**streams, **given}
-    )
+    chosen = {**streams, "preexec_fn": set_limits, "timeout": SECONDS, **given}
+    made = subprocess.run(command_words(session, words), **chosen)
     return Ran(made.returncode, made.stdout or b"", made.stderr.decode())

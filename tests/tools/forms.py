@@ -49,7 +49,7 @@ READING = [
     "runlog {}",
     "logtool assemble {}",
     "logtool show {}",
-    f"logtool explain {{}} {' '.join(NAMELESS)}",
+    f"logtool explain {{}} {NAMELESS}",
     "modelrun answers {}",
     "modelrun state {}",
     "modelrun items {} 26",

@@ -17,7 +17,7 @@ PLACE = "/tmp/"  # where the commands write
 INDENT = "    "
 PROMPT = "$ "
 LINKED = ("tools", "logs", "model", "runlog")  # what the commands use
-SIMPLE = ("tools/logtool", "cat", "cp")
+SIMPLE = ("tools/logtool", "cat")
 BUILDING = ("rt ", "gcc ")  # commands of README.md that tests/embed stands for
 SETTING = ("run_b=", "bytes()")  # lines of README.md that its commands use
 SECONDS = 60

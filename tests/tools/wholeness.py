@@ -58,7 +58,7 @@ ENDLESS = [
     ("logtool explain /dev/zero --model-only", 2, "found more than 65,536 bytes"),
     ("logtool draw /dev/zero -o /dev/null.svg", 2, "found more than 65,536 bytes"),
     (f"logtool explain {STORY} --names /dev/zero", 2, "/dev/zero: found more than 4,194,304"),
-    ("modelrun state /dev/zero", 2, "at most 65,536 bytes"),
+    ("modelrun state /dev/zero", 2, "found more than 65,536 bytes"),
     ("modelrun holders --text /dev/zero 1", 2, "found more than 4,194,304 bytes"),
     ("runlog /dev/zero", 1, "more than 65,536 bytes"),
     ("runlog --text /dev/zero", 2, "found more than 4,194,304 bytes"),
