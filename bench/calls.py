@@ -1,9 +1,9 @@
 """Count the instructions of one call of each kind, and the stack.
 
-A call in place is the difference of two runs of target/bin/callcost under
+A call in place is the difference of two runs of target/bin/bench_calls under
 valgrind whose inputs differ in their last five bytes alone: the call that is
 measured, and a call of unknown kind. A call by value is the difference of a run
-of target/bin/callrun with the call and one without it.
+of target/bin/test_calls with the call and one without it.
 """
 
 from pathlib import Path
@@ -14,8 +14,8 @@ from states import KIND_NAMES, ROOT, Case, small_cases, worst_cases
 from limits import UNKNOWN_KIND
 from records import Call
 
-IN_PLACE = ROOT / "target" / "bin" / "callcost"
-BY_VALUE = ROOT / "target" / "bin" / "callrun"
+IN_PLACE = ROOT / "target" / "bin" / "bench_calls"
+BY_VALUE = ROOT / "target" / "bin" / "test_calls"
 
 MOST_INSTRUCTIONS = 6000  # of any call in the worst state
 USUAL_INSTRUCTIONS = 1500  # of more than half of the kinds in the worst state

@@ -7,3 +7,10 @@ pub mod LoadLaws
 pub mod LogLaws
 pub mod CodeLaws
 pub mod TwoRuns
+pub mod HookLaws
+pub mod Stored
+pub mod Chains
+pub mod Telling
+pub mod Bounds
+pub mod Holding
+pub mod LogTelling

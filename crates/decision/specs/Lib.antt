@@ -4,3 +4,5 @@ pub mod View
 pub mod Answers
 pub mod Logs
 pub mod TwoRuns
+pub mod Chains
+pub mod Telling

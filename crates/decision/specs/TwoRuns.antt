@@ -23,8 +23,8 @@ use Rattle.decision.specs.Answers.{Made, AnswersRecord, AnswersItems}
 use Rattle.decision.specs.Logs.{roomFor, Runs}
 
 -- A chain over a list of steps: x k is the tracker at moment k, and a n the answer to step n where that is a record. The first tracker is
--- fresh, each record meets its tracker as the one before left it, and a memory step leaves the tracker alone. (The functions return for every
--- tracker and all bytes, so there is a chain for each list of steps; that is not built here.)
+-- fresh, each record meets its tracker as the one before left it, and a memory step leaves the tracker alone. There is a chain for each list
+-- of steps (Chains, `ChainExists`), and a call by the hook is a record (`HookIsStep`).
 pub record Chain (steps : List Step) (x : ℕ → Monitor) (a : ℕ → Answer) : Type 0 where
   pub made : Made (x 0)
   pub answers : (n : ℕ) (bytes : List ℕ) → stepAt steps n ≡ entry bytes → AnswersRecord (x n) bytes (record { answer = a n; monitor = x (suc n) })

@@ -3,8 +3,8 @@ use Prim.Native.Nat.{_≤_, _-_}
 use mathlib.Core.Path.{_≡_}
 use lib.ListN.{length}
 use borrow.Author.Needs.{needs}
-use Rattle.callrun.proofs.put_number.Statement.{statement}
-use Rattle.callrun.proofs.put_number.Tie as tie
+use Rattle.test_calls.proofs.put_number.Statement.{statement}
+use Rattle.test_calls.proofs.put_number.Tie as tie
 
 abbrev Inv-loop : tie.InvT-loop
 Inv-loop line₀ at n k text next₀ i₀ i-end line next i = (i ≤ i-end) × (i-end ≡ length text) × (length line ≡ length line₀)

@@ -1,8 +1,8 @@
 -- `print_holders` is safe and ends: the loop goes through the 64 items.
 use Prim.Native.Nat.{_≤_, _-_}
 use borrow.Author.Needs.{needs}
-use Rattle.callrun.proofs.print_holders.Statement.{statement}
-use Rattle.callrun.proofs.print_holders.Tie as tie
+use Rattle.test_calls.proofs.print_holders.Statement.{statement}
+use Rattle.test_calls.proofs.print_holders.Tie as tie
 
 abbrev Inv-loop : tie.InvT-loop
 Inv-loop t i₀ i = i ≤ 64

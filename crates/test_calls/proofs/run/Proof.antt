@@ -6,10 +6,10 @@ use mathlib.Core.List.{[]}
 use lib.ListN.{length}
 use borrow.Author.Needs.{needs}
 use Rattle.tracker.specs.View.{view}
-use Rattle.callrun.specs.Calls.{afterCalls}
-use Rattle.callrun.proofs.CallLaws.{none-yet, one-more}
-use Rattle.callrun.proofs.run.Statement.{statement}
-use Rattle.callrun.proofs.run.Tie as tie
+use Rattle.test_calls.specs.Calls.{afterCalls}
+use Rattle.test_calls.proofs.CallLaws.{none-yet, one-more}
+use Rattle.test_calls.proofs.run.Statement.{statement}
+use Rattle.test_calls.proofs.run.Tie as tie
 
 abbrev Inv-loop : tie.InvT-loop
 Inv-loop calls t₀ i₀ i-end t i = (i ≤ i-end) × (i-end ≡ length calls / 5) × (view t [] ≡ afterCalls i calls)

@@ -3,8 +3,8 @@ use native.Mathlib.Omega.{arith}
 use mathlib.Core.Path.{sym}
 use lib.Seq.{length-take-le}
 use borrow.Author.Needs.{needs}
-use Rattle.callrun.proofs.write_line.Statement.{statement}
-use Rattle.callrun.proofs.write_line.Tie as tie
+use Rattle.test_calls.proofs.write_line.Statement.{statement}
+use Rattle.test_calls.proofs.write_line.Tie as tie
 
 put-requires : tie.Need-put-requires
 put-requires c κs = search needs

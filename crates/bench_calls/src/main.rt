@@ -1,4 +1,4 @@
-// Runs calls on the parts of a fresh tracker where they lie, without a copy: what bench/run measures. Standard input is as callrun reads it,
+// Runs calls on the parts of a fresh tracker where they lie, without a copy: what bench/run measures. Standard input is as test_calls reads it,
 // and a line is written for each call, 0 or the refusal's number.
 use libc::STDIN_FILENO;
 use libc::STDOUT_FILENO;

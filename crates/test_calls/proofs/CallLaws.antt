@@ -5,7 +5,7 @@ use mathlib.Core.Path.{_≡_, refl, sym, ap, _∙_}
 use mathlib.Core.List.{List}
 use Rattle.flow.specs.Box.{State, fresh}
 use Rattle.tracker.specs.Worked.{worked}
-use Rattle.callrun.specs.Calls.{callAt, afterCalls}
+use Rattle.test_calls.specs.Calls.{callAt, afterCalls}
 
 pub none-yet : (l : List ℕ) → afterCalls 0 l ≡ fresh
 unfolding afterCalls

@@ -6,7 +6,7 @@ ghost use mathlib.Core.List.{[]};
 ghost use Prim.Native.Nat.{_/_};
 ghost use lib.ListN.{length};
 ghost use Rattle.tracker.specs.View.{view};
-ghost use Rattle.callrun.specs.Calls.{afterCalls};
+ghost use Rattle.test_calls.specs.Calls.{afterCalls};
 use libc::STDIN_FILENO;
 use libc::STDOUT_FILENO;
 use tracker::Tracker;

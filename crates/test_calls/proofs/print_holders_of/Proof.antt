@@ -3,8 +3,8 @@ use Prim.Native.Nat.{_≤_, _-_}
 use mathlib.Core.Path.{_≡_}
 use lib.ListN.{length}
 use borrow.Author.Needs.{needs}
-use Rattle.callrun.proofs.print_holders_of.Statement.{statement}
-use Rattle.callrun.proofs.print_holders_of.Tie as tie
+use Rattle.test_calls.proofs.print_holders_of.Statement.{statement}
+use Rattle.test_calls.proofs.print_holders_of.Tie as tie
 
 abbrev Inv-loop : tie.InvT-loop
 Inv-loop i found n line₀ at₀ k₀ line at k = (k ≤ 64) × (length found ≡ 64) × (length line ≡ 256)

@@ -1,8 +1,8 @@
 -- `print_items` is safe and ends: the loop goes through the 64 containers.
 use Prim.Native.Nat.{_≤_, _-_}
 use borrow.Author.Needs.{needs}
-use Rattle.callrun.proofs.print_items.Statement.{statement}
-use Rattle.callrun.proofs.print_items.Tie as tie
+use Rattle.test_calls.proofs.print_items.Statement.{statement}
+use Rattle.test_calls.proofs.print_items.Tie as tie
 
 abbrev Inv-loop : tie.InvT-loop
 Inv-loop t c₀ c = c ≤ 64

@@ -3,8 +3,8 @@ use Prim.Native.Nat.{_≤_, _-_, _/_}
 use mathlib.Core.Path.{_≡_}
 use lib.ListN.{length}
 use borrow.Author.Needs.{needs}
-use Rattle.callcost.proofs.run.Statement.{statement}
-use Rattle.callcost.proofs.run.Tie as tie
+use Rattle.bench_calls.proofs.run.Statement.{statement}
+use Rattle.bench_calls.proofs.run.Tie as tie
 
 abbrev Inv-loop : tie.InvT-loop
 Inv-loop calls live₀ items₀ feeders₀ fed₀ descriptors₀ names₀ i₀ i-end live items feeders fed descriptors names i = (i ≤ i-end) × (i-end ≡ length calls / 5)
