@@ -9,9 +9,9 @@ use lib.ListN.{getD, length, take, drop, replicate, set, length-append, length-d
 use lib.Seq.{getD-take, getD-drop, getD-append-add, getD-set-other, length-take-le}
 use borrow.Author.Tests.{ltb-true}
 use Rattle.sets.specs.Sets.{has, without}
-use Rattle.flow.specs.Box.{closed, slot, descriptorCount, State, descriptor}
-use Rattle.flow.specs.Calls.{Kind, start, openName, create, pipe, device, dup, close, read, write, truncate, mapRead, mapBoth, unmap, unlink, rename, link, fork, exit, label, kindNumber, Call, withLive, withDescriptors, withNames, withLinks, putBlock, block, tablesBy}
-use Rattle.flow.specs.Refusals.{ranges, inRange, isLive, dead}
+use Rattle.flow.specs.Box.{closed, slot, descriptorCount, Tables, descriptor, isLive}
+use Rattle.flow.specs.Calls.{Kind, start, openName, create, pipe, device, dup, close, read, write, truncate, mapRead, mapBoth, unmap, unlink, rename, link, fork, exit, label, kindNumber, Call, isKind, withLive, withDescriptors, withNames, withLinks, putBlock, block, tablesBy}
+use Rattle.flow.specs.Refusals.{ranges, inRange, dead}
 use Rattle.flow.proofs.Bools.{by, no-both}
 use Rattle.flow.proofs.Rows.{more-live, still-live, now-live}
 use Rattle.flow.proofs.After.{Linking}
@@ -32,9 +32,9 @@ module _ (l m : List ℕ) (p : ℕ) (ll : length l ≡ 512) (lm : length m ≡ 3
       let f : length (drop (slot p descriptorCount) l) ≡ length l - slot p 32 = length-drop (slot p 32) l in
       omega arith)
 
-  pub put-own : (d : ℕ) → d < 32 → getD (putBlock l p m) (slot p d) closed ≡ getD m d closed
+  pub put-same : (d : ℕ) → d < 32 → getD (putBlock l p m) (slot p d) closed ≡ getD m d closed
   unfolding putBlock
-  put-own d h =
+  put-same d h =
       let e : length (take (slot p 0) l) ≡ slot p 0 = front in
       let q : slot p d ≡ length (take (slot p 0) l) + d = omega arith in
       List·getD-append (take (slot p 0) l ++ m) _ closed (slot p d) (let f : length (take (slot p 0) l ++ m) ≡ slot p 32 = front-two in omega arith)
@@ -67,11 +67,11 @@ unfolding block
 block-at l p d h = getD-take 32 (drop (slot p 0) l) d closed h ∙ getD-drop (slot p 0) l d closed ∙ ap (λ (x : ℕ). getD l x closed) (omega arith)
 
 -- ---- a dead process has no open descriptor
-pub record Quiet (s : State) : Type 0 where
+pub record Quiet (s : Tables) : Type 0 where
   pub size : length (s .descriptors) ≡ 512
   pub dead : (p d : ℕ) → p < 16 → d < 32 → has (s .live) p ≡ false → getD (s .descriptors) (slot p d) closed ≡ closed
 
-module _ (s : State) (k : Linking s) (t : Quiet s) (p a b c : ℕ) where
+module _ (s : Tables) (k : Linking s) (t : Quiet s) (p a b c : ℕ) where
   abbrev call : Kind → Call
   call kind = record { kind = kind; process = p; a = a; b = b; c = c }
 
@@ -84,7 +84,7 @@ module _ (s : State) (k : Linking s) (t : Quiet s) (p a b c : ℕ) where
         dead = λ q f hq hf h. getD-set-other l (slot p d) (slot q f) e closed (λ z. let y : q ≡ p = omega arith in no-both (rw (← y) at v) h) ∙ u .dead q f hq hf h;
       }
 
-  quiet-same : (u : State) → u .live ≡ s .live → u .descriptors ≡ s .descriptors → Quiet u
+  quiet-same : (u : Tables) → u .live ≡ s .live → u .descriptors ≡ s .descriptors → Quiet u
   quiet-same u e f = record { size = rw f (t .size); dead = λ q d hq hd h. rw f (t .dead q d hq hd (rw e at h)) }
 
   live-set : (kind : Kind) (d e : ℕ) → d < 32 → dead s (call kind) ≡ not (isLive s p) → Accepted s (call kind) → Quiet (withDescriptors s (set (s .descriptors) (slot p d) e))
@@ -114,13 +114,13 @@ module _ (s : State) (k : Linking s) (t : Quiet s) (p a b c : ℕ) where
       }
     where
       ended : (q d : ℕ) → q < 16 → d < 32 → has (without (s .live) p) q ≡ false → Dec (q ≡ p) → getD (putBlock (s .descriptors) p (replicate descriptorCount closed)) (slot q d) closed ≡ closed
-      ended q d hq hd h (yes e) = rw e (put-own (s .descriptors) _ p (t .size) (length-replicate {A = ℕ} 32 closed) hp d hd ∙ getD-replicate 32 d closed closed hd)
+      ended q d hq hd h (yes e) = rw e (put-same (s .descriptors) _ p (t .size) (length-replicate {A = ℕ} 32 closed) hp d hd ∙ getD-replicate 32 d closed closed hd)
       ended q d hq hd h (no n) =
           put-other (s .descriptors) _ p (t .size) (length-replicate {A = ℕ} 32 closed) hp q d hd n
           ∙ t .dead q d hq hd (by (has (s .live) q) (λ v. no-both (still-live (s .live) p q hq n v) h) (λ v. v))
 
   pub quiet-after : (kind : Kind) → Accepted s (call kind) → Quiet (tablesBy s p a b c kind)
-  unfolding tablesBy withNames withDescriptors withLinks ranges inRange dead kindNumber
+  unfolding tablesBy withNames withDescriptors withLinks ranges inRange dead isKind kindNumber
   quiet-after start h = quiet-start
   quiet-after openName h = live-set openName b _ (ltb-true b 32 (fits-b (ranges openName) (call openName) (h .fits))) refl h
   quiet-after create h = let u = live-set create b c (ltb-true b 32 (fits-b (ranges create) (call create) (h .fits))) refl h in record { size = u .size; dead = u .dead }

@@ -8,67 +8,19 @@ use mathlib.Core.List.{List, [], _∷_, _++_, map, append-nil, append-assoc}
 use mathlib.Core.Option.{Option, none, some}
 use lib.ListN.{getD, length, take, length-append, List·getD-append}
 use lib.Seq.{getD-append-seam}
-use Rattle.flow.specs.Box.{Rule, State}
-use Rattle.flow.specs.Calls.{Kind, start, openName, create, pipe, device, dup, close, read, write, truncate, mapRead, mapBoth, unmap, unlink, rename, link, fork, exit, label, kindNumber, Call, Change, change, after}
+use Rattle.flow.specs.Lists.{firstThat, isNone}
+use Rattle.flow.specs.Box.{Rule, State, holds}
+use Rattle.flow.specs.Calls.{Call, Change, change, after}
 use Rattle.flow.specs.Rules.{Numbered, lowestBroken}
-use Rattle.flow.specs.Records.{kinds, kindOf, callOf, recordsOf}
-use Rattle.flow.specs.Refusals.{refusal}
-use Rattle.flow.specs.Verdicts.{Outcome, refuses, loads, allows, inhibits, modifies, diversion, mayDivert, breaksNone, stopped, verdictBy, verdict, accepted, outcomeBy, outcome, refused, rule, allow, inhibit, answerOf, answer, stateAfter, next, answerAll, runLog}
+use Rattle.flow.specs.Records.{Reading, unreadable, aCall, aRule, reading, callRead, callOf, recordsOf}
+use Rattle.flow.specs.Refusals.{callTests, testsOf, refusal}
+use Rattle.flow.specs.Verdicts.{Outcome, refuses, loads, allows, inhibits, modifies, diversion, mayDivert, breaksNone, stopped, verdictBy, verdict, outcomeOfCall, outcomeOfRule, outcomeOf, outcome, refused, rule, allow, inhibit, answerOf, answer, stateAfter, next, answerAll, runLog}
 use Rattle.flow.specs.Contents.{Step, entry, memory, stepState, stateAt}
-use Rattle.flow.specs.Consequences.{KindsNumbered, PassedBreaksNone, VerdictExactly, NoGainAllowed, StoppedKeeps, OneAnswerEach, AnswersInOrder, LogIsSteps}
+use Rattle.flow.specs.Consequences.{PassedBreaksNone, VerdictExactly, NoGainAllowed, StoppedKeeps, OneAnswerEach, AnswersInOrder, LogIsSteps}
 use Rattle.flow.proofs.Bools.{choice}
-use Rattle.flow.proofs.Outcomes.{none-is, rules-kept}
+use Rattle.flow.proofs.TableLaws.{none-is}
+use Rattle.flow.proofs.Refused.{refusal-read}
 use Rattle.flow.proofs.Judging.{none-broken}
-
--- ---- kinds and their numbers: the list from number i on
-unfoldable Indexed : ℕ → List (Option Kind) → Type 0
-Indexed i [] = Unit {0}
-Indexed i (none ∷ l) = Indexed (suc i) l
-Indexed i (some k ∷ l) = (kindNumber k ≡ i) × Indexed (suc i) l
-
-indexed-at : (l : List (Option Kind)) (i n : ℕ) (k : Kind) → Indexed i l → getD l n none ≡ some k → n + i ≡ kindNumber k
-unfolding Indexed
-indexed-at [] i n k h e = absurd (let z : _≡_ {A = ℕ} 0 1 = cc in let y : ⊥ = omega arith in y)
-indexed-at (none ∷ l) i zero k h e = absurd (let z : _≡_ {A = ℕ} 0 1 = cc in let y : ⊥ = omega arith in y)
-indexed-at (none ∷ l) i (suc n) k h e = let w : n + suc i ≡ kindNumber k = indexed-at l (suc i) n k h e in omega arith
-indexed-at (some j ∷ l) i zero k h e = let q : j ≡ k = cc in let w : kindNumber k ≡ i = rw q at (h .0) in omega arith
-indexed-at (some j ∷ l) i (suc n) k h e = let w : n + suc i ≡ kindNumber k = indexed-at l (suc i) n k (h .1) e in omega arith
-
-kind-at : (k : Kind) → kindOf (kindNumber k) ≡ some k
-unfolding kindOf kinds kindNumber
-kind-at start = refl
-kind-at openName = refl
-kind-at create = refl
-kind-at pipe = refl
-kind-at device = refl
-kind-at dup = refl
-kind-at close = refl
-kind-at read = refl
-kind-at write = refl
-kind-at truncate = refl
-kind-at mapRead = refl
-kind-at mapBoth = refl
-kind-at unmap = refl
-kind-at unlink = refl
-kind-at rename = refl
-kind-at link = refl
-kind-at fork = refl
-kind-at exit = refl
-kind-at label = refl
-
-kinds-indexed : Indexed 0 kinds
-unfolding kinds Indexed kindNumber
-kinds-indexed = (refl, (refl, (refl, (refl, (refl, (refl, (refl, (refl, (refl, (refl, (refl, (refl, (refl, (refl, (refl, (refl, (refl, (refl, (refl, tt)))))))))))))))))))
-
-number-at : (n : ℕ) (k : Kind) → kindOf n ≡ some k → n ≡ kindNumber k
-unfolding kindOf
-number-at n k e =
-    let w : n + 0 ≡ kindNumber k = indexed-at kinds 0 n k kinds-indexed e in
-    omega arith
-
-pub kinds-numbered : KindsNumbered
-unfolding KindsNumbered
-kinds-numbered n k = (number-at n k, λ e. rw e (kind-at k))
 
 -- ---- no rule is broken after a change
 unfoldable Whole : State → Outcome → Type 0
@@ -86,26 +38,48 @@ module _ (s : State) where
       (λ e. choice (Whole s) (breaksNone (after s (diversion s q r))) _ _ (λ f. none-is (lowestBroken (after s (diversion s q r))) f) (λ f. tt))
       (λ e. tt)
 
-  verdict-whole : (q : Call) (o : Option Numbered) → lowestBroken (after s (change s q)) ≡ o → Whole s (verdictBy s q o)
+  verdict-whole : (q : Call) (o : Option Numbered) → lowestBroken (after s (change (s .tables) q)) ≡ o → Whole s (verdictBy s q o)
   unfolding verdictBy Whole
   verdict-whole q none e = e
   verdict-whole q (some x) e = stopped-whole q (x .number) (x .rule)
 
-  accepted-whole : (bytes : List ℕ) (q : Option Call) → Whole s (accepted s bytes q)
-  unfolding accepted verdict Whole
-  accepted-whole bytes none = tt
-  accepted-whole bytes (some q) = verdict-whole q _ refl
+  call-whole : (q : Option Call) (o : Option ℕ) → Whole s (outcomeOfCall s q o)
+  unfolding outcomeOfCall verdict Whole
+  call-whole none none = tt
+  call-whole (some q) none = verdict-whole q _ refl
+  call-whole none (some n) = tt
+  call-whole (some q) (some n) = tt
 
-  outcome-whole : (bytes : List ℕ) (o : Option ℕ) → Whole s (outcomeBy s bytes o)
-  unfolding outcomeBy Whole
-  outcome-whole bytes none = accepted-whole bytes (callOf bytes)
-  outcome-whole bytes (some n) = tt
+  rule-whole : (r : Rule) (o : Option ℕ) → Whole s (outcomeOfRule s r o)
+  unfolding outcomeOfRule Whole
+  rule-whole r none = tt
+  rule-whole r (some n) = tt
+
+  read-whole : (x : Reading) → Whole s (outcomeOf s x)
+  unfolding outcomeOf Whole
+  read-whole (unreadable n) = tt
+  read-whole (aCall q) = call-whole q _
+  read-whole (aRule r) = rule-whole r _
 
 pub passed-breaks-none : PassedBreaksNone
 unfolding PassedBreaksNone outcome Whole
-passed-breaks-none s bytes x = (λ e. rw e at (outcome-whole s bytes (refusal s bytes)), λ n c e. rw e at (outcome-whole s bytes (refusal s bytes)))
+passed-breaks-none s bytes x = (λ e. rw e at (read-whole s (reading bytes)), λ n c e. rw e at (read-whole s (reading bytes)))
 
 -- ---- the verdict
+read-call : (x : Reading) (q : Call) → callRead x ≡ some q → x ≡ aCall (some q)
+unfolding callRead
+read-call (unreadable n) q e = absurd (let z : _≡_ {A = ℕ} 0 1 = cc in let y : ⊥ = omega arith in y)
+read-call (aCall o) q e = ap aCall e
+read-call (aRule r) q e = absurd (let z : _≡_ {A = ℕ} 0 1 = cc in let y : ⊥ = omega arith in y)
+
+-- a call that is not refused gets its verdict
+pub call-verdict : (s : State) (bytes : List ℕ) (q : Call) → refusal s bytes ≡ none → callOf bytes ≡ some q → outcome s bytes ≡ verdict s q
+unfolding callOf outcome outcomeOf outcomeOfCall testsOf
+call-verdict s bytes q e f =
+    let r : reading bytes ≡ aCall (some q) = read-call (reading bytes) q f in
+    let h : firstThat (callTests (s .tables) (some q)) ≡ none = rw r at (sym (refusal-read s bytes) ∙ e) in
+    rw (r, h) refl
+
 inhibited : (x : Numbered) (d : Change) (b w : Bool) → (b && w) ≡ false
     → _≡_ {A = Outcome} (elim b as (λ z. Outcome) [ true ↦ elim w as (λ z. Outcome) [ true ↦ modifies (x .number) (x .rule .substitute) d | false ↦ inhibits (x .number) ] | false ↦ inhibits (x .number) ]) (inhibits (x .number))
 inhibited x d true true m = cc
@@ -113,22 +87,26 @@ inhibited x d true false m = refl
 inhibited x d false w m = refl
 
 pub verdict-exactly : VerdictExactly
-unfolding VerdictExactly outcome outcomeBy accepted verdict verdictBy stopped breaksNone
+unfolding VerdictExactly verdict verdictBy stopped breaksNone isNone
 verdict-exactly s bytes q e f = (
-  λ h. rw (e, outcomeBy, f, accepted, verdict, h) refl,
+  λ h. call-verdict s bytes q e f ∙ rw h refl,
   λ x h. (
-    λ m w. rw (e, outcomeBy, f, accepted, verdict, h, verdictBy, m, stopped, w) refl,
-    λ m. rw (e, outcomeBy, f, accepted, verdict, h) (inhibited x (diversion s q (x .rule)) (mayDivert s q (x .rule)) (breaksNone (after s (diversion s q (x .rule)))) m),
+    λ m w. call-verdict s bytes q e f ∙ rw (h, verdictBy, m, stopped, w) refl,
+    λ m. call-verdict s bytes q e f ∙ rw h (inhibited x (diversion s q (x .rule)) (mayDivert s q (x .rule)) (breaksNone (after s (diversion s q (x .rule)))) m),
   ),
 )
 
 -- ---- nothing gained
+none-after : (s : State) (q : Call) → ((c i : ℕ) → c < 64 → holds (after s (change (s .tables) q)) c i ≡ true → holds s c i ≡ true) → lowestBroken s ≡ none → lowestBroken (after s (change (s .tables) q)) ≡ none
+unfolding lowestBroken after
+none-after s q less whole = none-broken (after s (change (s .tables) q)) s less 0 _ whole
+
 pub no-gain-allowed : NoGainAllowed
-unfolding NoGainAllowed outcome outcomeBy accepted verdict verdictBy lowestBroken
-no-gain-allowed s bytes q whole e f less = rw (e, outcomeBy, f, accepted, verdict, unbroken) refl
+unfolding NoGainAllowed verdict verdictBy
+no-gain-allowed s bytes q whole e f less = call-verdict s bytes q e f ∙ rw unbroken refl
   where
-    unbroken : lowestBroken (after s (change s q)) ≡ none
-    unbroken = none-broken (after s (change s q)) s less 0 _ (rw (rules-kept s q) whole)
+    unbroken : lowestBroken (after s (change (s .tables) q)) ≡ none
+    unbroken = none-after s q less whole
 
 -- ---- nothing changed
 stopped-keeps-by : (s : State) (o : Outcome) (n : ℕ) → (answerOf o ≡ refused n → stateAfter s o ≡ s) × (answerOf o ≡ inhibit n → stateAfter s o ≡ s)

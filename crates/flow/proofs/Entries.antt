@@ -8,9 +8,9 @@ use mathlib.Core.List.{List, [], _∷_, _++_}
 use lib.Dec.{ltb}
 use lib.ListN.{getD, take, drop, replicate, set}
 use borrow.Author.Tests.{not-false}
-use Rattle.flow.specs.Box.{isDevice, isFile, leads, closed, slot, descriptorCount, State, descriptor, name}
+use Rattle.flow.specs.Box.{isDevice, isFile, isTarget, closed, slot, descriptorCount, Tables, descriptor, name, isOpen, isBound}
 use Rattle.flow.specs.Calls.{Kind, start, openName, create, pipe, device, dup, close, read, write, truncate, mapRead, mapBoth, unmap, unlink, rename, link, fork, exit, label, Call, withLive, withDescriptors, withNames, withLinks, putBlock, block, tablesBy}
-use Rattle.flow.specs.Refusals.{inRange, ranges, isOpen, isBound, missing}
+use Rattle.flow.specs.Refusals.{inRange, ranges, missing}
 use Rattle.flow.proofs.Bools.{or-l, or-r}
 use Rattle.flow.proofs.Accepted.{Accepted, fits-b, fits-c}
 
@@ -64,19 +64,19 @@ module _ (P : ℕ → Bool) where
   unfolding block
   each-of l p k = each-take descriptorCount _ (each-drop (slot p 0) l k)
 
-pub record Entries (s : State) : Type 0 where
-  pub described : Each leads (s .descriptors)
+pub record Entries (s : Tables) : Type 0 where
+  pub described : Each isTarget (s .descriptors)
   pub named : Each isFile (s .names)
 
-file-leads : (e : ℕ) → isFile e ≡ true → leads e ≡ true
-unfolding leads
+file-leads : (e : ℕ) → isFile e ≡ true → isTarget e ≡ true
+unfolding isTarget
 file-leads e h = or-r (isDevice e) _ h
 
-device-leads : (e : ℕ) → ltb e 8 ≡ true → leads e ≡ true
-unfolding leads isDevice
+device-leads : (e : ℕ) → ltb e 8 ≡ true → isTarget e ≡ true
+unfolding isTarget isDevice
 device-leads e h = or-l _ (isFile e) h
 
-module _ (s : State) (t : Entries s) (p a b c : ℕ) where
+module _ (s : Tables) (t : Entries s) (p a b c : ℕ) where
   abbrev call : Kind → Call
   call kind = record { kind = kind; process = p; a = a; b = b; c = c }
 
@@ -87,17 +87,17 @@ module _ (s : State) (t : Entries s) (p a b c : ℕ) where
   pub entries-after : (kind : Kind) → Accepted s (call kind) → Entries (tablesBy s p a b c kind)
   unfolding tablesBy withLive withDescriptors withNames withLinks ranges inRange missing isOpen isBound
   entries-after start h = record { described = t .described; named = t .named }
-  entries-after openName h = record { described = each-set leads _ _ _ (inr (not-false (leads (name s a)) (h .there))) (t .described); named = t .named }
+  entries-after openName h = record { described = each-set isTarget _ _ _ (inr (not-false (isTarget (name s a)) (h .there))) (t .described); named = t .named }
   entries-after create h =
       let f = fits-c (ranges create) (call create) (h .fits) in
-      record { described = each-set leads _ _ c (inr (file-leads c f)) (t .described); named = each-set isFile _ _ c (inr f) (t .named) }
+      record { described = each-set isTarget _ _ c (inr (file-leads c f)) (t .described); named = each-set isFile _ _ c (inr f) (t .named) }
   entries-after pipe h =
-      let f : (c ≡ closed) ⊎ (leads c ≡ true) = inr (file-leads c (fits-c (ranges pipe) (call pipe) (h .fits))) in
-      record { described = each-set leads _ _ c f (each-set leads _ _ c f (t .described)); named = t .named }
+      let f : (c ≡ closed) ⊎ (isTarget c ≡ true) = inr (file-leads c (fits-c (ranges pipe) (call pipe) (h .fits))) in
+      record { described = each-set isTarget _ _ c f (each-set isTarget _ _ c f (t .described)); named = t .named }
   entries-after device h =
-      record { described = each-set leads _ _ b (inr (device-leads b (fits-b (ranges device) (call device) (h .fits)))) (t .described); named = t .named }
-  entries-after dup h = record { described = each-set leads _ _ _ (inr (not-false (leads (descriptor s p a)) (h .there))) (t .described); named = t .named }
-  entries-after close h = record { described = each-set leads _ _ closed (inl refl) (t .described); named = t .named }
+      record { described = each-set isTarget _ _ b (inr (device-leads b (fits-b (ranges device) (call device) (h .fits)))) (t .described); named = t .named }
+  entries-after dup h = record { described = each-set isTarget _ _ _ (inr (not-false (isTarget (descriptor s p a)) (h .there))) (t .described); named = t .named }
+  entries-after close h = record { described = each-set isTarget _ _ closed (inl refl) (t .described); named = t .named }
   entries-after read h = t
   entries-after write h = t
   entries-after truncate h = t
@@ -107,6 +107,6 @@ module _ (s : State) (t : Entries s) (p a b c : ℕ) where
   entries-after unlink h = record { described = t .described; named = each-set isFile _ _ closed (inl refl) (t .named) }
   entries-after rename h = record { described = t .described; named = each-set isFile _ _ _ name-entry (each-set isFile _ _ closed (inl refl) (t .named)) }
   entries-after link h = record { described = t .described; named = each-set isFile _ _ _ name-entry (t .named) }
-  entries-after fork h = record { described = each-block leads _ _ a (t .described) (each-of leads _ p (t .described)); named = t .named }
-  entries-after exit h = record { described = each-block leads _ _ p (t .described) (each-closed leads 32); named = t .named }
+  entries-after fork h = record { described = each-block isTarget _ _ a (t .described) (each-of isTarget _ p (t .described)); named = t .named }
+  entries-after exit h = record { described = each-block isTarget _ _ p (t .described) (each-closed isTarget 32); named = t .named }
   entries-after label h = t

@@ -10,7 +10,7 @@ use lib.ListN.{getD}
 use borrow.Author.Tests.{ltb-true, eqb-true, eqb-false, ne-eqb}
 use Rattle.sets.specs.Sets.{has, only, _∪_}
 use Rattle.sets.proofs.Members.{none-has, only-has, union-has}
-use Rattle.flow.specs.Box.{State, itemsOf}
+use Rattle.flow.specs.Box.{Tables, State, itemsOf}
 use Rattle.flow.specs.Links.{reach, given}
 use Rattle.flow.specs.Calls.{Call, Flow, still, gift, arrival, exchange, copy, clear, Change, moved, ended, after}
 use Rattle.flow.specs.Records.{callOf}
@@ -19,7 +19,7 @@ use Rattle.flow.specs.Queries.{Reply, refuse, result, itemsQuery}
 use Rattle.flow.specs.Contents.{Step, entry, memory, Machine, flowed, changed, contentsAfter, stepContents, stepState, stepAt, stateAt, runAt, labelOf, itemLabelled}
 use Rattle.flow.specs.Exact.{DifferOnlyAt, Exact}
 use Rattle.flow.proofs.Bools.{or-false-i, by, no-both, choice, choices, chosen-r}
-use Rattle.flow.proofs.Moves.{Fit, given-at, source, source-copy, source-other, copy-at, clear-at}
+use Rattle.flow.proofs.Moves.{movedIn, Fit, given-at, source, source-copy, source-other, copy-at, clear-at}
 use Rattle.flow.proofs.After.{after-items}
 use Rattle.flow.proofs.Outcomes.{Made, Sound}
 use Rattle.flow.proofs.Keeping.{Invariant, fresh-empty, sound, state-kept}
@@ -64,20 +64,20 @@ module _ (s : State) (k : Invariant s) (κ : ℕ → ℕ) (mirrors : Mirrors s �
   both false true v a b e f g = rw (e, f) refl
   both false false v a b e f g = e
 
-  mirror-exchange : (t : State) (a b v : ℕ) → Fit s t (exchange a b) → v < 64 → flowed collecting n x s (exchange a b) κ v ≡ getD (moved s (exchange a b)) v 0
+  mirror-exchange : (t : Tables) (a b v : ℕ) → Fit (s .tables) t (exchange a b) → v < 64 → flowed collecting n x (s .tables) (exchange a b) κ v ≡ getD (movedIn s (exchange a b)) v 0
   unfolding flowed collecting moved Fit itemsOf
   mirror-exchange t a b v fit hv =
-      both (has (reach s a) v) (has (reach s b) v) v a b (mirrors v hv) (mirrors a (fit .0)) (mirrors b (fit .1))
-      ∙ sym (given-at (given (s .items) (reach s b) (itemsOf s a)) (reach s a) (itemsOf s b) v hv
-      ∙ ap (λ (y : ℕ). elim (has (reach s a) v) as (λ z. ℕ) [ true ↦ y ∪ itemsOf s b | false ↦ y ]) (given-at (s .items) (reach s b) (itemsOf s a) v hv))
+      both (has (reach (s .tables) a) v) (has (reach (s .tables) b) v) v a b (mirrors v hv) (mirrors a (fit .0)) (mirrors b (fit .1))
+      ∙ sym (given-at (given (s .items) (reach (s .tables) b) (itemsOf s a)) (reach (s .tables) a) (itemsOf s b) v hv
+      ∙ ap (λ (y : ℕ). elim (has (reach (s .tables) a) v) as (λ z. ℕ) [ true ↦ y ∪ itemsOf s b | false ↦ y ]) (given-at (s .items) (reach (s .tables) b) (itemsOf s a) v hv))
 
-  mirror-flow : (t : State) (f : Flow) → Fit s t f → ((u i : ℕ) → f ≡ arrival u i → x ≡ only i) → (v : ℕ) → v < 64 → flowed collecting n x s f κ v ≡ getD (moved s f) v 0
+  mirror-flow : (t : Tables) (f : Flow) → Fit (s .tables) t f → ((u i : ℕ) → f ≡ arrival u i → x ≡ only i) → (v : ℕ) → v < 64 → flowed collecting n x (s .tables) f κ v ≡ getD (movedIn s f) v 0
   unfolding flowed collecting moved Fit itemsOf
   mirror-flow t still fit e v hv = mirrors v hv
   mirror-flow t (gift g u) fit e v hv =
-      choices (has (reach s u) v) _ _ _ _ (λ l. ap₂ _∪_ (mirrors v hv) (mirrors g (fit .0))) (λ l. mirrors v hv) ∙ sym (given-at (s .items) _ _ v hv)
+      choices (has (reach (s .tables) u) v) _ _ _ _ (λ l. ap₂ _∪_ (mirrors v hv) (mirrors g (fit .0))) (λ l. mirrors v hv) ∙ sym (given-at (s .items) _ _ v hv)
   mirror-flow t (arrival u i) fit e v hv =
-      choices (has (reach s u) v) _ _ _ _ (λ l. ap₂ _∪_ (mirrors v hv) (e u i refl)) (λ l. mirrors v hv) ∙ sym (given-at (s .items) _ _ v hv)
+      choices (has (reach (s .tables) u) v) _ _ _ _ (λ l. ap₂ _∪_ (mirrors v hv) (e u i refl)) (λ l. mirrors v hv) ∙ sym (given-at (s .items) _ _ v hv)
   mirror-flow t (exchange a b) fit e v hv = mirror-exchange t a b v fit hv
   mirror-flow t (copy a b) fit e v hv =
       choice (λ z. z ≡ itemsOf s (source a b v)) (eqb v b) (κ a) (κ v)
@@ -86,10 +86,10 @@ module _ (s : State) (k : Invariant s) (κ : ℕ → ℕ) (mirrors : Mirrors s �
       ∙ sym (copy-at s a b v hv)
   mirror-flow t (clear u) fit e v hv = choices (eqb v u) _ _ _ _ (λ l. refl) (λ l. mirrors v hv) ∙ sym (clear-at s u v hv)
 
-  mirror-change : (q : Option Call) (y : Change) → Made s q y → ((i : ℕ) → labelOf q ≡ some i → x ≡ only i) → Mirrors (after s y) (changed collecting n x s y κ)
+  mirror-change : (q : Option Call) (y : Change) → Made s q y → ((i : ℕ) → labelOf q ≡ some i → x ≡ only i) → Mirrors (after s y) (changed collecting n x (s .tables) y κ)
   unfolding changed collecting
   mirror-change q y m e v hv =
-      choices (ended s (y .tables) v) _ _ _ _ (λ l. refl) (λ l. mirror-flow (y .tables) (y .flow) (m .fit) (λ u i z. e i (m .labelled u i z)) v hv)
+      choices (ended (s .tables) (y .tables) v) _ _ _ _ (λ l. refl) (λ l. mirror-flow (y .tables) (y .flow) (m .fit) (λ u i z. e i (m .labelled u i z)) v hv)
       ∙ sym (after-items s y v hv)
 
   mirror-outcome : (q : Option Call) (o : Outcome) → Sound s q o → ((i : ℕ) → labelOf q ≡ some i → x ≡ only i) → Mirrors (stateAfter s o) (contentsAfter collecting n x s o κ)
@@ -130,21 +130,21 @@ module _ (i : ℕ) where
   lack-union x y h k = union-has x y i ∙ or-false-i (has x i) (has y i) h k
 
   module _ (s : State) (κ : ℕ → ℕ) (lack : Lack κ) (n x : ℕ) (none-in : has x i ≡ false) where
-    lack-flow : (f : Flow) → Lack (flowed collecting n x s f κ)
+    lack-flow : (f : Flow) → Lack (flowed collecting n x (s .tables) f κ)
     unfolding flowed collecting
     lack-flow still v = lack v
-    lack-flow (gift g u) v = choice (λ z. has z i ≡ false) (has (reach s u) v) _ _ (λ l. lack-union _ _ (lack v) (lack g)) (λ l. lack v)
-    lack-flow (arrival u j) v = choice (λ z. has z i ≡ false) (has (reach s u) v) _ _ (λ l. lack-union _ _ (lack v) none-in) (λ l. lack v)
+    lack-flow (gift g u) v = choice (λ z. has z i ≡ false) (has (reach (s .tables) u) v) _ _ (λ l. lack-union _ _ (lack v) (lack g)) (λ l. lack v)
+    lack-flow (arrival u j) v = choice (λ z. has z i ≡ false) (has (reach (s .tables) u) v) _ _ (λ l. lack-union _ _ (lack v) none-in) (λ l. lack v)
     lack-flow (exchange a b) v =
-        choice (λ z. has z i ≡ false) (has (reach s b) v) _ _
-        (λ l. choice (λ z. has z i ≡ false) (has (reach s a) v) _ _ (λ m. lack-union _ _ (lack-union _ _ (lack v) (lack a)) (lack b)) (λ m. lack-union _ _ (lack v) (lack a)))
-        (λ l. choice (λ z. has z i ≡ false) (has (reach s a) v) _ _ (λ m. lack-union _ _ (lack v) (lack b)) (λ m. lack v))
+        choice (λ z. has z i ≡ false) (has (reach (s .tables) b) v) _ _
+        (λ l. choice (λ z. has z i ≡ false) (has (reach (s .tables) a) v) _ _ (λ m. lack-union _ _ (lack-union _ _ (lack v) (lack a)) (lack b)) (λ m. lack-union _ _ (lack v) (lack a)))
+        (λ l. choice (λ z. has z i ≡ false) (has (reach (s .tables) a) v) _ _ (λ m. lack-union _ _ (lack v) (lack b)) (λ m. lack v))
     lack-flow (copy a b) v = choice (λ z. has z i ≡ false) (eqb v b) _ _ (λ l. lack a) (λ l. lack v)
     lack-flow (clear u) v = choice (λ z. has z i ≡ false) (eqb v u) _ _ (λ l. none-has i) (λ l. lack v)
 
-    lack-change : (y : Change) → Lack (changed collecting n x s y κ)
+    lack-change : (y : Change) → Lack (changed collecting n x (s .tables) y κ)
     unfolding changed collecting
-    lack-change y v = choice (λ z. has z i ≡ false) (ended s (y .tables) v) _ _ (λ l. none-has i) (λ l. lack-flow (y .flow) v)
+    lack-change y v = choice (λ z. has z i ≡ false) (ended (s .tables) (y .tables) v) _ _ (λ l. none-has i) (λ l. lack-flow (y .flow) v)
 
     lack-outcome : (o : Outcome) → Lack (contentsAfter collecting n x s o κ)
     unfolding contentsAfter

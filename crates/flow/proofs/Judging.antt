@@ -6,8 +6,8 @@ use mathlib.Core.Bool.{Bool, true, false, not}
 use mathlib.Core.List.{List, [], _∷_, _++_}
 use mathlib.Core.Option.{Option, none, some}
 use Rattle.sets.specs.Sets.{has}
-use Rattle.flow.specs.Box.{Condition, forbid, separate, confine, Rule, State}
-use Rattle.flow.specs.Rules.{holds, breaks, broken, Numbered, firstBroken, lowestBroken}
+use Rattle.flow.specs.Box.{Condition, forbid, separate, confine, Rule, State, holds}
+use Rattle.flow.specs.Rules.{breaks, broken, Numbered, firstBroken, lowestBroken}
 use Rattle.flow.specs.Consequences.{LowestIn, this, past, LowestReported}
 use Rattle.flow.proofs.Bools.{and-l, and-r, and-i, by, no-both}
 use Rattle.flow.proofs.TableLaws.{none-of, none-below}

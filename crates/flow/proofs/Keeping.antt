@@ -8,10 +8,10 @@ use mathlib.Core.Option.{Option, none}
 use lib.ListN.{getD, length, replicate, length-append, length-replicate, getD-replicate}
 use Rattle.sets.specs.Sets.{has}
 use Rattle.sets.proofs.Members.{none-has}
-use Rattle.flow.specs.Box.{isFile, leads, closed, slot, Rule, State, fresh, itemsOf, feedersOf, fedBy, descriptor}
+use Rattle.flow.specs.Box.{isFile, isTarget, closed, slot, Rule, State, noTables, fresh, itemsOf, holds, isLive, feedersOf, feeds, descriptor}
 use Rattle.flow.specs.Links.{linked, mapped, used}
-use Rattle.flow.specs.Calls.{Call, Change, withItems, after}
-use Rattle.flow.specs.Rules.{holds, broken, firstBroken, lowestBroken}
+use Rattle.flow.specs.Calls.{Call, Change, after}
+use Rattle.flow.specs.Rules.{broken, firstBroken, lowestBroken}
 use Rattle.flow.specs.Records.{callOf}
 use Rattle.flow.specs.Verdicts.{Outcome, refuses, loads, allows, inhibits, modifies, outcome, withRule, stateAfter}
 use Rattle.flow.specs.Contents.{Step, entry, memory, stepState, stepAt, stateAt}
@@ -22,24 +22,24 @@ use Rattle.flow.proofs.Reach.{reach-exact}
 use Rattle.flow.proofs.Rows.{Rows, row-none}
 use Rattle.flow.proofs.Use.{linked-used, linked-joins, fed-row}
 use Rattle.flow.proofs.Moves.{Along, moved-along}
-use Rattle.flow.proofs.After.{Linking, Bare, after-linking, after-bare, after-along}
+use Rattle.flow.proofs.After.{Linking, Bare, after-bare, after-along}
 use Rattle.flow.proofs.Entries.{Entries, each-closed, each-at}
 use Rattle.flow.proofs.Blocks.{Quiet}
 use Rattle.flow.proofs.Outcomes.{Made, Sound, outcome-sound}
 
 -- what the proofs carry from state to state
 pub record Invariant (s : State) : Type 0 where
-  pub linking : Linking s
-  pub entries : Entries s
-  pub quiet : Quiet s
-  pub along : Along s (s .items)
+  pub linking : Linking (s .tables)
+  pub entries : Entries (s .tables)
+  pub quiet : Quiet (s .tables)
+  pub along : Along (s .tables) (s .items)
   pub bare : Bare s
   pub unbroken : lowestBroken s ≡ none
   pub loadable : allWellFormed (s .rules) ≡ true
   pub counted : length (s .rules) ≤ 32
 
-pub fed-bound : (s : State) → Linking s → (p : ℕ) → fedBy s p < 2 ^ 64
-fed-bound s k p = fed-row s (k .feeders) (k .fed) p .fits
+pub fed-bound : (s : State) → Linking (s .tables) → (p : ℕ) → feeds (s .tables) p < 2 ^ 64
+fed-bound s k p = fed-row (s .tables) (k .feeders) (k .fed) p .fits
 
 -- ---- the fresh state
 zeros : (n k : ℕ) → _≡_ {A = ℕ} (getD (replicate n 0) k 0) 0
@@ -55,11 +55,11 @@ fresh-rows : Rows 0 (replicate 16 0)
 fresh-rows = record { size = length-replicate {A = ℕ} 16 0; row = λ p. rw (zeros 16 p) (row-none 0 p) }
 
 pub fresh-kept : Invariant fresh
-unfolding fresh lowestBroken firstBroken allWellFormed itemsOf
+unfolding fresh noTables lowestBroken firstBroken allWellFormed itemsOf
 fresh-kept =
     record {
       linking = record { feeders = fresh-rows; fed = fresh-rows };
-      entries = record { described = each-closed leads 512; named = each-closed isFile 128 };
+      entries = record { described = each-closed isTarget 512; named = each-closed isFile 128 };
       quiet = record { size = length-replicate {A = ℕ} 512 closed; dead = λ p d hp hd h. getD-replicate 512 (slot p d) closed closed (omega arith) };
       along = λ u v i hu hv l h. no-both h (ap (λ (x : ℕ). has x i) (zeros 64 u) ∙ none-has i);
       bare = λ c hc e. zeros 64 c;
@@ -70,17 +70,17 @@ fresh-kept =
 
 -- ---- a change
 made-kept : (s : State) (q : Option Call) (x : Change) → Invariant s → Made s q x → Invariant (after s x)
-unfolding holds itemsOf after withItems
+unfolding holds itemsOf after
 made-kept s q x k m =
     record {
-      linking = after-linking s x (m .linking);
-      entries = record { described = m .entries .described; named = m .entries .named };
-      quiet = record { size = m .quiet .size; dead = m .quiet .dead };
+      linking = m .linking;
+      entries = m .entries;
+      quiet = m .quiet;
       along = after-along s x (m .linking) (moved-along s (fed-bound s (k .linking)) (x .tables) (k .along) (x .flow) (m .fit));
       bare = after-bare s (k .linking) (k .bare) x (m .fit);
       unbroken = m .unbroken;
-      loadable = rw (m .rules) (k .loadable);
-      counted = rw (m .rules) (k .counted);
+      loadable = k .loadable;
+      counted = k .counted;
     }
 
 -- ---- a rule
@@ -90,12 +90,12 @@ one-formed [] x e f = and-i (wellFormed x) true f refl
 one-formed (r ∷ rs) x e f = and-i (wellFormed r) _ (and-l _ (allWellFormed rs) e) (one-formed rs x (and-r (wellFormed r) _ e) f)
 
 rule-kept : (s : State) (x : Rule) → Invariant s → broken s x ≡ false → wellFormed x ≡ true → length (s .rules) < 32 → Invariant (withRule s x)
-unfolding withRule linked feedersOf fedBy used mapped holds itemsOf lowestBroken
+unfolding withRule holds itemsOf lowestBroken
 rule-kept s x k e f l =
     record {
-      linking = record { feeders = k .linking .feeders; fed = k .linking .fed };
-      entries = record { described = k .entries .described; named = k .entries .named };
-      quiet = record { size = k .quiet .size; dead = k .quiet .dead };
+      linking = k .linking;
+      entries = k .entries;
+      quiet = k .quiet;
       along = k .along;
       bare = k .bare;
       unbroken = none-broken (withRule s x) s (λ v i h m. m) 0 _ (one-more s 0 (s .rules) x (k .unbroken) e);
@@ -126,7 +126,7 @@ state-kept steps zero = fresh-kept
 state-kept steps (suc k) = step-kept (stateAt steps k) (stepAt steps k) (state-kept steps k)
 
 pub invariant-keeps : (s : State) → Invariant s → Kept s
-unfolding holds itemsOf descriptor
+unfolding holds itemsOf descriptor isLive
 invariant-keeps s k =
     record {
       along = k .along;
@@ -134,12 +134,12 @@ invariant-keeps s k =
       unbroken = k .unbroken;
       loadable = k .loadable;
       counted = k .counted;
-      live = linked-used s (k .linking .feeders) (k .linking .fed);
-      joined = linked-joins s (k .linking .feeders) (k .linking .fed);
-      described = λ n. each-at leads (s .descriptors) n (k .entries .described);
-      named = λ n. each-at isFile (s .names) n (k .entries .named);
+      live = linked-used (s .tables) (k .linking .feeders) (k .linking .fed);
+      joined = linked-joins (s .tables) (k .linking .feeders) (k .linking .fed);
+      described = λ n. each-at isTarget (s .tables .descriptors) n (k .entries .described);
+      named = λ n. each-at isFile (s .tables .names) n (k .entries .named);
       dead = k .quiet .dead;
-      reached = reach-exact s (fed-bound s (k .linking));
+      reached = reach-exact (s .tables) (fed-bound s (k .linking));
     }
 
 pub every-record-keeps : EveryRecordKeeps

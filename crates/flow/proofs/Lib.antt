@@ -1,5 +1,6 @@
 pub mod Bools
 pub mod TableLaws
+pub mod KindLaws
 pub mod Refused
 pub mod Logs
 pub mod Judging

@@ -10,10 +10,9 @@ use lib.ListN.{getD}
 use borrow.Author.Tests.{eqb-true, eq-eqb, ne-eqb}
 use Rattle.sets.specs.Sets.{has, only, _∪_}
 use Rattle.sets.proofs.Members.{union-has, only-has, none-has}
-use Rattle.flow.specs.Box.{State, itemsOf, fedBy}
+use Rattle.flow.specs.Box.{Tables, State, itemsOf, holds, feeds}
 use Rattle.flow.specs.Links.{linked, reach, given, used}
 use Rattle.flow.specs.Calls.{Flow, still, gift, arrival, exchange, copy, clear, moved}
-use Rattle.flow.specs.Rules.{holds}
 use Rattle.flow.proofs.Bools.{or-elim, or-l, or-r, and-l, and-r, and-i, by, no-both, choice, chosen-l, chosen-r}
 use Rattle.flow.proofs.TableLaws.{table-at}
 use Rattle.flow.proofs.Reach.{reach-here, reach-onward}
@@ -50,45 +49,49 @@ pub source-other : (a b v : ℕ) → (v ≡ b → ⊥) → source a b v ≡ v
 unfolding source
 source-other a b v n = chosen-r (eqb v b) a v (ne-eqb v b n)
 
+-- the items of a state after they moved
+abbrev pub movedIn : State → Flow → List ℕ
+movedIn s f = moved (s .tables) (s .items) f
+
 module _ (s : State) where
-  pub copy-at : (a b v : ℕ) → v < 64 → getD (moved s (copy a b)) v 0 ≡ itemsOf s (source a b v)
-  unfolding moved source
+  pub copy-at : (a b v : ℕ) → v < 64 → getD (movedIn s (copy a b)) v 0 ≡ itemsOf s (source a b v)
+  unfolding moved source itemsOf
   copy-at a b v h = table-at 64 _ v 0 h ∙ choice (λ z. _≡_ {A = ℕ} (elim (eqb v b) as (λ z. ℕ) [ true ↦ itemsOf s a | false ↦ itemsOf s v ]) (itemsOf s z)) (eqb v b) a v (chosen-l (eqb v b) _ _) (chosen-r (eqb v b) _ _)
 
-  pub clear-at : (u v : ℕ) → v < 64 → getD (moved s (clear u)) v 0 ≡ elim (eqb v u) as (λ z. ℕ) [ true ↦ 0 | false ↦ itemsOf s v ]
-  unfolding moved
+  pub clear-at : (u v : ℕ) → v < 64 → getD (movedIn s (clear u)) v 0 ≡ elim (eqb v u) as (λ z. ℕ) [ true ↦ 0 | false ↦ itemsOf s v ]
+  unfolding moved itemsOf
   clear-at u v h = table-at 64 _ v 0 h
 
   -- ---- what v holds after each flow
-  pub gift-holds : (g u v i : ℕ) → v < 64 → inList (moved s (gift g u)) v i ≡ (holds s v i || (has (reach s u) v && holds s g i))
+  pub gift-holds : (g u v i : ℕ) → v < 64 → inList (movedIn s (gift g u)) v i ≡ (holds s v i || (has (reach (s .tables) u) v && holds s g i))
   unfolding moved holds itemsOf
-  gift-holds g u v i h = given-has (s .items) (reach s u) (itemsOf s g) v i h
+  gift-holds g u v i h = given-has (s .items) (reach (s .tables) u) (itemsOf s g) v i h
 
-  pub arrival-holds : (u j v i : ℕ) → v < 64 → inList (moved s (arrival u j)) v i ≡ (holds s v i || (has (reach s u) v && eqb j i))
+  pub arrival-holds : (u j v i : ℕ) → v < 64 → inList (movedIn s (arrival u j)) v i ≡ (holds s v i || (has (reach (s .tables) u) v && eqb j i))
   unfolding moved holds itemsOf
-  arrival-holds u j v i h = given-has (s .items) (reach s u) (only j) v i h ∙ ap (λ (b : Bool). holds s v i || (has (reach s u) v && b)) (only-has j i)
+  arrival-holds u j v i h = given-has (s .items) (reach (s .tables) u) (only j) v i h ∙ ap (λ (b : Bool). holds s v i || (has (reach (s .tables) u) v && b)) (only-has j i)
 
   pub exchange-holds : (a b v i : ℕ) → v < 64
-      → inList (moved s (exchange a b)) v i ≡ ((holds s v i || (has (reach s b) v && holds s a i)) || (has (reach s a) v && holds s b i))
+      → inList (movedIn s (exchange a b)) v i ≡ ((holds s v i || (has (reach (s .tables) b) v && holds s a i)) || (has (reach (s .tables) a) v && holds s b i))
   unfolding moved holds itemsOf
   exchange-holds a b v i h =
-      given-has (given (s .items) (reach s b) (itemsOf s a)) (reach s a) (itemsOf s b) v i h
-      ∙ ap (λ (x : Bool). x || (has (reach s a) v && holds s b i)) (given-has (s .items) (reach s b) (itemsOf s a) v i h)
+      given-has (given (s .items) (reach (s .tables) b) (itemsOf s a)) (reach (s .tables) a) (itemsOf s b) v i h
+      ∙ ap (λ (x : Bool). x || (has (reach (s .tables) a) v && holds s b i)) (given-has (s .items) (reach (s .tables) b) (itemsOf s a) v i h)
 
   -- the two may be named in either order
-  exchange-swap : (a b v i : ℕ) → v < 64 → inList (moved s (exchange b a)) v i ≡ inList (moved s (exchange a b)) v i
+  exchange-swap : (a b v i : ℕ) → v < 64 → inList (movedIn s (exchange b a)) v i ≡ inList (movedIn s (exchange a b)) v i
   exchange-swap a b v i h =
-      exchange-holds b a v i h ∙ swap (holds s v i) (has (reach s a) v && holds s b i) (has (reach s b) v && holds s a i) ∙ sym (exchange-holds a b v i h)
+      exchange-holds b a v i h ∙ swap (holds s v i) (has (reach (s .tables) a) v && holds s b i) (has (reach (s .tables) b) v && holds s a i) ∙ sym (exchange-holds a b v i h)
     where
       swap : (x y z : Bool) → (x || y || z) ≡ (x || z || y)
       swap true y z = refl
       swap false y z = or-comm y z
 
-  pub copy-holds : (a b v i : ℕ) → v < 64 → inList (moved s (copy a b)) v i ≡ holds s (source a b v) i
+  pub copy-holds : (a b v i : ℕ) → v < 64 → inList (movedIn s (copy a b)) v i ≡ holds s (source a b v) i
   unfolding holds
   copy-holds a b v i h = ap (λ (x : ℕ). has x i) (copy-at a b v h)
 
-  pub clear-holds : (u v i : ℕ) → v < 64 → inList (moved s (clear u)) v i ≡ (not (eqb v u) && holds s v i)
+  pub clear-holds : (u v i : ℕ) → v < 64 → inList (movedIn s (clear u)) v i ≡ (not (eqb v u) && holds s v i)
   unfolding holds
   clear-holds u v i h = ap (λ (x : ℕ). has x i) (clear-at u v h) ∙ cleared (eqb v u)
     where
@@ -97,11 +100,11 @@ module _ (s : State) where
       cleared false = refl
 
 -- ---- items go along links
-abbrev pub Along : State → List ℕ → Type 0
+abbrev pub Along : Tables → List ℕ → Type 0
 Along s l = (u v i : ℕ) → u < 64 → v < 64 → linked s u v ≡ true → inList l u i ≡ true → inList l v i ≡ true
 
 -- the links after a change and the ones before, by the flow
-unfoldable pub Fit : State → State → Flow → Type 0
+unfoldable pub Fit : Tables → Tables → Flow → Type 0
 Fit s t still = (x y : ℕ) → linked t x y ≡ true → linked s x y ≡ true
 Fit s t (gift g u) =
     (g < 64) × (u < 64) × (used s u ≡ true) × ((x y : ℕ) → linked t x y ≡ true → (linked s x y ≡ true) ⊎ ((x ≡ g) × (y ≡ u)))
@@ -113,58 +116,58 @@ Fit s t (copy a b) =
     (a < 64) × (b < 64) × (used s b ≡ false) × (used t b ≡ true) × ((x y : ℕ) → linked t x y ≡ true → linked s (source a b x) (source a b y) ≡ true)
 Fit s t (clear u) = ((x y : ℕ) → linked t x y ≡ true → linked s x y ≡ true) × ((x : ℕ) → linked t x u ≡ false)
 
-module _ (s : State) (bound : (p : ℕ) → fedBy s p < 2 ^ 64) where
+module _ (s : State) (bound : (p : ℕ) → feeds (s .tables) p < 2 ^ 64) where
   -- a gift to a reach
-  given-along : (l : List ℕ) (u x : ℕ) → u < 64 → Along s l → Along s (given l (reach s u) x)
+  given-along : (l : List ℕ) (u x : ℕ) → u < 64 → Along (s .tables) l → Along (s .tables) (given l (reach (s .tables) u) x)
   given-along l u x hu k a b i ha hb e h =
-      given-has l (reach s u) x b i hb
-      ∙ or-elim (inList l a i) (has (reach s u) a && has x i)
+      given-has l (reach (s .tables) u) x b i hb
+      ∙ or-elim (inList l a i) (has (reach (s .tables) u) a && has x i)
       (λ f. or-l _ _ (k a b i ha hb e f))
-      (λ f. or-r (inList l b i) _ (and-i (has (reach s u) b) _ (reach-onward s bound u a b hu (and-l _ (has x i) f) e) (and-r (has (reach s u) a) _ f)))
-      (sym (given-has l (reach s u) x a i ha) ∙ h)
+      (λ f. or-r (inList l b i) _ (and-i (has (reach (s .tables) u) b) _ (reach-onward (s .tables) bound u a b hu (and-l _ (has x i) f) e) (and-r (has (reach (s .tables) u) a) _ f)))
+      (sym (given-has l (reach (s .tables) u) x a i ha) ∙ h)
 
-  module _ (t : State) (k : Along s (s .items)) where
-    gift-along : (g u : ℕ) → Fit s t (gift g u) → Along t (moved s (gift g u))
+  module _ (t : Tables) (k : Along (s .tables) (s .items)) where
+    gift-along : (g u : ℕ) → Fit (s .tables) t (gift g u) → Along t (movedIn s (gift g u))
     unfolding Fit moved itemsOf holds
     gift-along g u fit a b i ha hb l h =
         ⊎-elim
         (λ e. given-along (s .items) u (itemsOf s g) (fit .1) k a b i ha hb e h)
         (λ e. let w : holds s g i ≡ true =
-        or-elim (holds s g i) (has (reach s u) g && holds s g i) (λ f. f) (and-r (has (reach s u) g) _)
+        or-elim (holds s g i) (has (reach (s .tables) u) g && holds s g i) (λ f. f) (and-r (has (reach (s .tables) u) g) _)
         (sym (gift-holds s g u g i (fit .0)) ∙ rw (e .0) at h) in
-        rw (e .1) (gift-holds s g u u i (fit .1) ∙ or-r (holds s u i) _ (and-i (has (reach s u) u) _ (reach-here s u) w)))
+        rw (e .1) (gift-holds s g u u i (fit .1) ∙ or-r (holds s u i) _ (and-i (has (reach (s .tables) u) u) _ (reach-here (s .tables) u) w)))
         (fit .3 a b l)
 
     -- both givers' items are in both
-    exchanged : (a b i : ℕ) → a < 64 → b < 64 → inList (moved s (exchange a b)) a i ≡ true → inList (moved s (exchange a b)) b i ≡ true
+    exchanged : (a b i : ℕ) → a < 64 → b < 64 → inList (movedIn s (exchange a b)) a i ≡ true → inList (movedIn s (exchange a b)) b i ≡ true
     exchanged a b i ha hb h =
-        let rb : Bool = has (reach s b) b in
-        let from-a : holds s a i ≡ true → inList (moved s (exchange a b)) b i ≡ true =
-        λ e. exchange-holds s a b b i hb ∙ or-l _ (has (reach s a) b && holds s b i) (or-r (holds s b i) _ (and-i rb _ (reach-here s b) e)) in
-        let from-b : holds s b i ≡ true → inList (moved s (exchange a b)) b i ≡ true =
-        λ e. exchange-holds s a b b i hb ∙ or-l _ (has (reach s a) b && holds s b i) (or-l _ (rb && holds s a i) e) in
-        or-elim (holds s a i || (has (reach s b) a && holds s a i)) (has (reach s a) a && holds s b i)
-        (or-elim (holds s a i) (has (reach s b) a && holds s a i) from-a (λ e. from-a (and-r (has (reach s b) a) _ e)))
-        (λ e. from-b (and-r (has (reach s a) a) _ e))
+        let rb : Bool = has (reach (s .tables) b) b in
+        let from-a : holds s a i ≡ true → inList (movedIn s (exchange a b)) b i ≡ true =
+        λ e. exchange-holds s a b b i hb ∙ or-l _ (has (reach (s .tables) a) b && holds s b i) (or-r (holds s b i) _ (and-i rb _ (reach-here (s .tables) b) e)) in
+        let from-b : holds s b i ≡ true → inList (movedIn s (exchange a b)) b i ≡ true =
+        λ e. exchange-holds s a b b i hb ∙ or-l _ (has (reach (s .tables) a) b && holds s b i) (or-l _ (rb && holds s a i) e) in
+        or-elim (holds s a i || (has (reach (s .tables) b) a && holds s a i)) (has (reach (s .tables) a) a && holds s b i)
+        (or-elim (holds s a i) (has (reach (s .tables) b) a && holds s a i) from-a (λ e. from-a (and-r (has (reach (s .tables) b) a) _ e)))
+        (λ e. from-b (and-r (has (reach (s .tables) a) a) _ e))
         (sym (exchange-holds s a b a i ha) ∙ h)
 
-    exchange-along : (a b : ℕ) → Fit s t (exchange a b) → Along t (moved s (exchange a b))
-    unfolding Fit moved
+    exchange-along : (a b : ℕ) → Fit (s .tables) t (exchange a b) → Along t (movedIn s (exchange a b))
+    unfolding Fit moved itemsOf
     exchange-along a b fit u v i hu hv l h =
         ⊎-elim
-        (λ e. given-along (given (s .items) (reach s b) (itemsOf s a)) a (itemsOf s b) (fit .0) (given-along (s .items) b (itemsOf s a) (fit .1) k) u v i hu hv e h)
+        (λ e. given-along (given (s .items) (reach (s .tables) b) (itemsOf s a)) a (itemsOf s b) (fit .0) (given-along (s .items) b (itemsOf s a) (fit .1) k) u v i hu hv e h)
         (⊎-elim
         (λ e. rw (e .1) (exchanged a b i (fit .0) (fit .1) (rw (e .0) at h)))
         (λ e. rw (e .1) (exchange-swap s b a a i (fit .0) ∙ exchanged b a i (fit .1) (fit .0) (exchange-swap s a b b i (fit .1) ∙ rw (e .0) at h))))
         (fit .4 u v l)
 
-    copy-along : (a b : ℕ) → Fit s t (copy a b) → Along t (moved s (copy a b))
+    copy-along : (a b : ℕ) → Fit (s .tables) t (copy a b) → Along t (movedIn s (copy a b))
     unfolding Fit holds itemsOf
     copy-along a b fit u v i hu hv l h =
         copy-holds s a b v i hv
         ∙ k (source a b u) (source a b v) i (source-lt a b u (fit .0) hu) (source-lt a b v (fit .0) hv) (fit .4 u v l) (sym (copy-holds s a b u i hu) ∙ h)
 
-    clear-along : (c : ℕ) → Fit s t (clear c) → Along t (moved s (clear c))
+    clear-along : (c : ℕ) → Fit (s .tables) t (clear c) → Along t (movedIn s (clear c))
     unfolding Fit holds itemsOf
     clear-along c fit u v i hu hv l h =
         clear-holds s c v i hv
@@ -172,7 +175,7 @@ module _ (s : State) (bound : (p : ℕ) → fedBy s p < 2 ^ 64) where
         (by (eqb v c) (λ e. no-both (rw (eqb-true v c e) at l) (fit .1 u)) (λ e. ap not e))
         (k u v i hu hv (fit .0 u v l) (and-r (not (eqb u c)) _ (sym (clear-holds s c u i hu) ∙ h)))
 
-    pub moved-along : (f : Flow) → Fit s t f → Along t (moved s f)
+    pub moved-along : (f : Flow) → Fit (s .tables) t f → Along t (movedIn s f)
     unfolding Fit moved
     moved-along still fit = λ u v i hu hv l h. k u v i hu hv (fit u v l) h
     moved-along (gift g u) fit = gift-along g u fit

@@ -2,21 +2,22 @@
 use Prim.Native.Nat.{ℕ, _≤_}
 use native.Mathlib.Nat.{le-refl}
 use native.Mathlib.Omega.{arith}
-use mathlib.Core.Path.{_≡_, sym}
+use mathlib.Core.Path.{_≡_, refl, sym}
 use mathlib.Core.Logic.{_↔_}
 use mathlib.Core.Bool.{true, false, true≢false}
-use mathlib.Core.List.{List, [], _∷_}
+use mathlib.Core.List.{List, [], _∷_, _++_}
 use mathlib.Core.Option.{Option, none, some}
 use lib.Dec.{eqb}
-use Rattle.flow.specs.Tables.{Test, _⇒_, firstThat}
-use Rattle.flow.specs.Box.{Rule, State}
+use Rattle.flow.specs.Lists.{Test, _⇒_, firstThat}
+use Rattle.flow.specs.Box.{Rule, Tables, State}
 use Rattle.flow.specs.Calls.{Call, change, after}
 use Rattle.flow.specs.Rules.{Numbered, lowestBroken}
-use Rattle.flow.specs.Records.{tagOf, callTag, callOf, ruleOf}
-use Rattle.flow.specs.Refusals.{callTests, ruleTests, testsByTag, recordTests, refusal}
-use Rattle.flow.specs.Verdicts.{Outcome, refuses, loads, allows, inhibits, modifies, diversion, mayDivert, breaksNone, stopped, verdictBy, verdict, accepted, outcomeBy, outcome, refused, answerOf, answer}
+use Rattle.flow.specs.Records.{tagOf, callTag, valueOf, callIn, ruleIn, Reading, unreadable, aCall, aRule, frameTests, contentOf, readingBy, reading}
+use Rattle.flow.specs.Refusals.{callTests, fieldTests, ruleTests, testsOf, recordTests, refusal}
+use Rattle.flow.specs.Verdicts.{Outcome, refuses, loads, allows, inhibits, modifies, diversion, mayDivert, breaksNone, stopped, verdictBy, verdict, outcomeOfCall, outcomeOfRule, outcomeOf, outcome, refused, answerOf, answer}
 use Rattle.flow.specs.Consequences.{RefusedExactly, Applies, this-test, later-test, LowestRefusal}
 use Rattle.flow.proofs.Bools.{choice}
+use Rattle.flow.proofs.TableLaws.{first-some, first-none}
 
 -- the outcome is no refusal
 unfoldable Accepts : Outcome → Type 0
@@ -35,11 +36,6 @@ unfolding verdictBy Accepts
 verdict-accepts s q none = tt
 verdict-accepts s q (some x) = stopped-accepts s q (x .number) (x .rule)
 
-accepted-accepts : (s : State) (bytes : List ℕ) (q : Option Call) → Accepts (accepted s bytes q)
-unfolding accepted verdict Accepts
-accepted-accepts s bytes none = tt
-accepted-accepts s bytes (some q) = verdict-accepts s q (lowestBroken (after s (change s q)))
-
 not-refused : (o : Outcome) (n : ℕ) → Accepts o → answerOf o ≡ refused n → none ≡ some n
 unfolding Accepts answerOf
 not-refused (refuses k) n a e = absurd a
@@ -48,14 +44,39 @@ not-refused (allows x) n a e = cc
 not-refused (inhibits k) n a e = cc
 not-refused (modifies k c x) n a e = cc
 
-refused-by : (s : State) (bytes : List ℕ) (o : Option ℕ) (n : ℕ) → answerOf (outcomeBy s bytes o) ≡ refused n ↔ o ≡ some n
-unfolding outcomeBy answerOf
-refused-by s bytes none n = (not-refused (accepted s bytes (callOf bytes)) n (accepted-accepts s bytes (callOf bytes)), λ e. cc)
-refused-by s bytes (some k) n = (λ e. cc, λ e. cc)
+refused-call : (s : State) (q : Option Call) (o : Option ℕ) (n : ℕ) → firstThat (callTests (s .tables) q) ≡ o → answerOf (outcomeOfCall s q o) ≡ refused n ↔ o ≡ some n
+unfolding outcomeOfCall verdict answerOf callTests firstThat
+refused-call s none none n e = absurd (let z : _≡_ {A = ℕ} 0 1 = cc in let y : ⊥ = omega arith in y)
+refused-call s (some q) none n e = (not-refused (verdict s q) n (verdict-accepts s q (lowestBroken (after s (change (s .tables) q)))), λ d. cc)
+refused-call s none (some k) n e = (λ d. cc, λ d. cc)
+refused-call s (some q) (some k) n e = (λ d. cc, λ d. cc)
+
+refused-rule : (s : State) (r : Rule) (o : Option ℕ) (n : ℕ) → answerOf (outcomeOfRule s r o) ≡ refused n ↔ o ≡ some n
+unfolding outcomeOfRule answerOf
+refused-rule s r none n = (λ d. cc, λ d. cc)
+refused-rule s r (some k) n = (λ d. cc, λ d. cc)
+
+-- by what was read
+refused-read : (s : State) (x : Reading) (n : ℕ) → answerOf (outcomeOf s x) ≡ refused n ↔ firstThat (testsOf s x) ≡ some n
+unfolding outcomeOf answerOf testsOf firstThat
+refused-read s (unreadable k) n = (λ d. cc, λ d. cc)
+refused-read s (aCall q) n = refused-call s q _ n refl
+refused-read s (aRule r) n = refused-rule s r _ n
+
+-- the tests of the frame, then those of what was read
+by-frame : (s : State) (bytes : List ℕ) (o : Option ℕ) → firstThat (frameTests bytes) ≡ o
+    → firstThat (frameTests bytes ++ testsOf s (contentOf bytes)) ≡ firstThat (testsOf s (readingBy bytes o))
+unfolding readingBy testsOf firstThat
+by-frame s bytes none e = first-none (frameTests bytes) (testsOf s (contentOf bytes)) e
+by-frame s bytes (some n) e = first-some (frameTests bytes) (testsOf s (contentOf bytes)) n e
+
+pub refusal-read : (s : State) (bytes : List ℕ) → refusal s bytes ≡ firstThat (testsOf s (reading bytes))
+unfolding refusal recordTests reading
+refusal-read s bytes = by-frame s bytes (firstThat (frameTests bytes)) refl
 
 pub refused-exactly : RefusedExactly
 unfolding RefusedExactly answer outcome
-refused-exactly s bytes n = refused-by s bytes (refusal s bytes) n
+refused-exactly s bytes n = rw (refusal-read s bytes) (refused-read s (reading bytes) n)
 
 -- ---- the lists of tests rise
 unfoldable Rises : ℕ → List Test → Type 0
@@ -73,24 +94,24 @@ first-lowest k n m ((true ⇒ j) ∷ ts) r e a = let q : j ≡ n = cc in rw (←
 first-lowest k n m ((false ⇒ j) ∷ ts) r e (this-test h) = absurd (true≢false (sym h))
 first-lowest k n m ((false ⇒ j) ∷ ts) r e (later-test a) = first-lowest j n m ts (r .1) e a
 
-call-rises : (s : State) (q : Option Call) → Rises 3 (callTests s q)
+call-rises : (t : Tables) (q : Option Call) → Rises 3 (callTests t q)
 unfolding callTests Rises
-call-rises s none = (omega arith, tt)
-call-rises s (some q) = (omega arith, (omega arith, (omega arith, (omega arith, (omega arith, (omega arith, tt))))))
+call-rises t none = (omega arith, tt)
+call-rises t (some q) = (omega arith, (omega arith, (omega arith, (omega arith, (omega arith, (omega arith, tt))))))
 
 rule-rises : (s : State) (r : Rule) → Rises 3 (ruleTests s r)
-unfolding ruleTests Rises
+unfolding ruleTests fieldTests Rises
 rule-rises s r = (omega arith, (omega arith, (omega arith, (omega arith, (omega arith, tt)))))
 
+content-rises : (s : State) (bytes : List ℕ) → Rises 3 (testsOf s (contentOf bytes))
+unfolding contentOf testsOf
+content-rises s bytes =
+    choice (λ x. Rises 3 (testsOf s x)) (eqb (tagOf bytes) callTag) (aCall (callIn (valueOf bytes))) (aRule (ruleIn (tagOf bytes) (valueOf bytes)))
+    (λ e. call-rises (s .tables) (callIn (valueOf bytes))) (λ e. rule-rises s (ruleIn (tagOf bytes) (valueOf bytes)))
+
 tests-rise : (s : State) (bytes : List ℕ) → Rises 0 (recordTests s bytes)
-unfolding recordTests testsByTag Rises
-tests-rise s bytes = (
-  omega arith,
-  (
-    omega arith,
-    (omega arith, choice (Rises 3) (eqb (tagOf bytes) callTag) _ _ (λ e. call-rises s (callOf bytes)) (λ e. rule-rises s (ruleOf bytes))),
-  ),
-)
+unfolding recordTests frameTests Rises
+tests-rise s bytes = (omega arith, (omega arith, (omega arith, content-rises s bytes)))
 
 pub lowest-refusal : LowestRefusal
 unfolding LowestRefusal refusal

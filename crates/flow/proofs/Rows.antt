@@ -12,17 +12,17 @@ use lib.Pow.{pow-pos}
 use borrow.Author.Tests.{ltb-true, leb-true, eqb-true, eq-eqb, ne-eqb}
 use Rattle.sets.specs.Sets.{has, only, without, _∪_}
 use Rattle.sets.proofs.Members.{union-has, only-has, none-has, union-lt, only-lt, without-has, without-lt, has-lt}
-use Rattle.flow.specs.Box.{isDevice, isFile, leads}
+use Rattle.flow.specs.Box.{isDevice, isFile, isTarget}
 use Rattle.flow.proofs.Bools.{or-elim, or-l, or-r, and-l, and-r, and-i, no-both}
 
 -- where an entry leads is below 64 and no process
-pub leads-lt : (e : ℕ) → leads e ≡ true → e < 64
-unfolding leads isDevice isFile
-leads-lt e h = or-elim (ltb e 8) (leb 24 e && ltb e 64) (λ a. let l : e < 8 = ltb-true e 8 a in omega arith) (λ a. ltb-true e 64 (and-r (leb 24 e) _ a)) h
+pub target-lt : (e : ℕ) → isTarget e ≡ true → e < 64
+unfolding isTarget isDevice isFile
+target-lt e h = or-elim (ltb e 8) (leb 24 e && ltb e 64) (λ a. let l : e < 8 = ltb-true e 8 a in omega arith) (λ a. ltb-true e 64 (and-r (leb 24 e) _ a)) h
 
-pub leads-not : (e : ℕ) → leads e ≡ true → 8 ≤ e → e < 24 → ⊥
-unfolding leads isDevice isFile
-leads-not e h a b =
+pub target-not : (e : ℕ) → isTarget e ≡ true → 8 ≤ e → e < 24 → ⊥
+unfolding isTarget isDevice isFile
+target-not e h a b =
     or-elim (ltb e 8) (leb 24 e && ltb e 64)
     (λ f. let l : e < 8 = ltb-true e 8 f in let z : ⊥ = omega arith in z)
     (λ f. let l : 24 ≤ e = leb-true 24 e (and-l _ (ltb e 64) f) in let z : ⊥ = omega arith in z) h
@@ -30,7 +30,7 @@ leads-not e h a b =
 -- the set x of containers that process p maps
 pub record Row (live p x : ℕ) : Type 0 where
   pub fits : x < 2 ^ 64
-  pub maps : (c : ℕ) → has x c ≡ true → leads c ≡ true
+  pub maps : (c : ℕ) → has x c ≡ true → isTarget c ≡ true
   pub lives : (c : ℕ) → has x c ≡ true → has live p ≡ true
 
 -- one for each process
@@ -41,10 +41,10 @@ pub record Rows (live : ℕ) (rows : List ℕ) : Type 0 where
 pub row-none : (live p : ℕ) → Row live p 0
 row-none live p = record { fits = pow-pos 64; maps = λ c h. no-both h (none-has c); lives = λ c h. no-both h (none-has c) }
 
-pub row-add : (live p x c : ℕ) → leads c ≡ true → has live p ≡ true → Row live p x → Row live p (x ∪ only c)
+pub row-add : (live p x c : ℕ) → isTarget c ≡ true → has live p ≡ true → Row live p x → Row live p (x ∪ only c)
 row-add live p x c l h r =
     record {
-      fits = union-lt x (only c) (r .fits) (only-lt c (leads-lt c l));
+      fits = union-lt x (only c) (r .fits) (only-lt c (target-lt c l));
       maps = λ d k. or-elim (has x d) (has (only c) d) (r .maps d) (λ e. rw (← (eqb-true c d (sym (only-has c d) ∙ e))) l) (sym (union-has x (only c) d) ∙ k);
       lives = λ d k. h;
     }

@@ -1,17 +1,17 @@
--- Laws of tables, of lists with one element set, and of lists of tests.
+-- Laws of lists made from a function, of lists with one element set, and of lists of tests.
 use Prim.Native.Nat.{ℕ, zero, suc, _+_, _≤_, _<_}
 use native.Mathlib.Omega.{arith}
 use native.Mathlib.Nat.{not-suc-le-zero, le-of-suc-le-suc}
 use native.Mathlib.Decide.{ℕ-discrete, decLt}
 use mathlib.Core.Path.{_≡_, refl, sym, ap, _∙_}
 use mathlib.Core.Bool.{Bool, true, false}
-use mathlib.Core.List.{List, [], _∷_}
-use mathlib.Core.Option.{none, some}
+use mathlib.Core.List.{List, [], _∷_, _++_}
+use mathlib.Core.Option.{Option, none, some}
 use lib.Dec.{ltb, eqb}
 use lib.ListN.{getD, length, set}
 use lib.Seq.{getD-set-same, getD-set-other, set-out, ext-getD}
 use borrow.Author.Tests.{ltb-true, ltb-false, eq-eqb}
-use Rattle.flow.specs.Tables.{tableFrom, table, someBelow, isIn, Test, _⇒_, firstThat}
+use Rattle.flow.specs.Lists.{tableFrom, table, someBelow, isIn, Test, _⇒_, firstThat, isNone}
 use Rattle.flow.proofs.Bools.{by, no-both, choice}
 
 tableFrom-at : {A : Type 0} (n k : ℕ) (f : ℕ → A) (i : ℕ) (d : A) → i < n → getD (tableFrom n k f) i d ≡ f (k + i)
@@ -70,6 +70,24 @@ set-cases {A} l i a k d P h g = go (ℕ-discrete k i) (decLt i (length l))
     go (yes e) (no m) = rw (set-out l i a (omega arith)) g
     go (no e) m = rw (getD-set-other l i k a d e) g
 
+-- ---- the first test of two lists
+pub first-some : (ts us : List Test) (n : ℕ) → firstThat ts ≡ some n → firstThat (ts ++ us) ≡ some n
+unfolding firstThat
+first-some [] us n e = absurd (let z : _≡_ {A = ℕ} 0 1 = cc in let y : ⊥ = omega arith in y)
+first-some ((true ⇒ k) ∷ ts) us n e = e
+first-some ((false ⇒ k) ∷ ts) us n e = first-some ts us n e
+
+pub first-none : (ts us : List Test) → firstThat ts ≡ none → firstThat (ts ++ us) ≡ firstThat us
+unfolding firstThat
+first-none [] us e = refl
+first-none ((true ⇒ k) ∷ ts) us e = absurd (let z : _≡_ {A = ℕ} 0 1 = cc in let y : ⊥ = omega arith in y)
+first-none ((false ⇒ k) ∷ ts) us e = first-none ts us e
+
+pub none-is : {A : Type 0} (o : Option A) → isNone o ≡ true → o ≡ none
+unfolding isNone
+none-is none h = refl
+none-is (some x) h = no-both h refl
+
 -- ---- of the tests of a list none holds
 unfoldable pub AllFalse : List Test → Type 0
 AllFalse [] = Unit {0}
@@ -80,3 +98,8 @@ unfolding firstThat AllFalse
 all-false [] h = tt
 all-false ((true ⇒ n) ∷ ts) h = absurd (let z : _≡_ {A = ℕ} 0 1 = cc in let y : ⊥ = omega arith in y)
 all-false ((false ⇒ n) ∷ ts) h = (refl, all-false ts h)
+
+pub first-of-none : (ts : List Test) → AllFalse ts → firstThat ts ≡ none
+unfolding firstThat AllFalse
+first-of-none [] h = refl
+first-of-none ((b ⇒ n) ∷ ts) h = rw (h .0) (first-of-none ts (h .1))

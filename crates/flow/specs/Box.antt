@@ -1,9 +1,10 @@
--- Document 01, The box: the numbers and their limits, the state, and the fresh state.
+-- Document 01, The box: the numbers and their limits, the state, the fresh state, and looking things up in it.
 use Prim.Native.Nat.{ℕ, _+_, _*_}
 use mathlib.Core.Bool.{Bool, _&&_, _||_}
 use mathlib.Core.List.{List, []}
 use lib.Dec.{ltb, leb}
 use lib.ListN.{getD, replicate}
+use Rattle.sets.specs.Sets.{has}
 
 -- ---- the limits
 abbrev pub containerCount : ℕ
@@ -53,9 +54,13 @@ isProcess c = leb firstProcess c && ltb c firstFile
 unfoldable pub isFile : ℕ → Bool
 isFile c = leb firstFile c && ltb c containerCount
 
+-- a device, a file or a pipe: what a descriptor, a name, a mapping or a diverted write leads to
+unfoldable pub isTarget : ℕ → Bool
+isTarget c = isDevice c || isFile c
+
 -- process p is container 8 + p
-abbrev pub own : ℕ → ℕ
-own p = firstProcess + p
+abbrev pub containerOf : ℕ → ℕ
+containerOf p = firstProcess + p
 
 -- ---- rules (01, The records): an item is a number, a set of containers too
 pub data Condition : Type 0 where
@@ -70,59 +75,73 @@ pub record Rule : Type 0 where
   pub substitute : ℕ
 
 -- ---- the state
--- live: the set of live processes. items: for each container the set of its items (the storage map).
--- feeders, fed: for each process the set of the containers that link to it, and of those that it links to (the alias map).
--- descriptors: 32 for each process; names: 128. An entry is the container that it leads to (the naming maps).
--- rules: those loaded, number 0 first.
-pub record State : Type 0 where
+-- What calls set. live: the set of live processes. feeders, fed: for each process the set of the containers that link to it, and of those
+-- that it links to (the alias map). descriptors: 32 for each process; names: 128. An entry is the container that it leads to (the naming maps).
+pub record Tables : Type 0 where
   pub live : ℕ
-  pub items : List ℕ
   pub feeders : List ℕ
   pub fed : List ℕ
   pub descriptors : List ℕ
   pub names : List ℕ
+
+-- items: for each container the set of its items (the storage map). rules: those loaded, number 0 first.
+pub record State : Type 0 where
+  pub tables : Tables
+  pub items : List ℕ
   pub rules : List Rule
 
 -- the mark of a closed descriptor and of an unbound name
 abbrev pub closed : ℕ
 closed = 255
 
--- no live process, no rules, no items anywhere and no links; every descriptor closed, every name unbound
-unfoldable pub fresh : State
-fresh =
+-- no live process and no links; every descriptor closed, every name unbound
+unfoldable pub noTables : Tables
+noTables =
     record {
       live = 0;
-      items = replicate containerCount 0;
       feeders = replicate processCount 0;
       fed = replicate processCount 0;
       descriptors = replicate (processCount * descriptorCount) closed;
       names = replicate nameCount closed;
-      rules = [];
     }
+
+-- and no items anywhere, no rules
+unfoldable pub fresh : State
+fresh = record { tables = noTables; items = replicate containerCount 0; rules = [] }
 
 -- ---- looking things up
 -- the items of container c
 unfoldable pub itemsOf : State → ℕ → ℕ
 itemsOf s c = getD (s .items) c 0
 
--- the containers that link to process p, and those that it links to
-unfoldable pub feedersOf : State → ℕ → ℕ
-feedersOf s p = getD (s .feeders) p 0
+-- container c holds item i
+unfoldable pub holds : State → ℕ → ℕ → Bool
+holds s c i = has (itemsOf s c) i
 
-unfoldable pub fedBy : State → ℕ → ℕ
-fedBy s p = getD (s .fed) p 0
+unfoldable pub isLive : Tables → ℕ → Bool
+isLive t p = has (t .live) p
+
+-- the containers that feed process p, and those that it feeds
+unfoldable pub feedersOf : Tables → ℕ → ℕ
+feedersOf t p = getD (t .feeders) p 0
+
+unfoldable pub feeds : Tables → ℕ → ℕ
+feeds t p = getD (t .fed) p 0
 
 -- the place of descriptor d of process p
 abbrev pub slot : ℕ → ℕ → ℕ
 slot p d = descriptorCount * p + d
 
 -- where descriptor d of process p leads, and name n
-unfoldable pub descriptor : State → ℕ → ℕ → ℕ
-descriptor s p d = getD (s .descriptors) (slot p d) closed
+unfoldable pub descriptor : Tables → ℕ → ℕ → ℕ
+descriptor t p d = getD (t .descriptors) (slot p d) closed
 
-unfoldable pub name : State → ℕ → ℕ
-name s n = getD (s .names) n closed
+unfoldable pub name : Tables → ℕ → ℕ
+name t n = getD (t .names) n closed
 
--- an entry leads to a device, a file or a pipe; any other entry counts as closed or unbound
-unfoldable pub leads : ℕ → Bool
-leads e = isDevice e || isFile e
+-- an entry that leads to no device, file or pipe counts as closed or unbound
+unfoldable pub isOpen : Tables → ℕ → ℕ → Bool
+isOpen t p d = isTarget (descriptor t p d)
+
+unfoldable pub isBound : Tables → ℕ → Bool
+isBound t n = isTarget (name t n)

@@ -4,10 +4,10 @@ use mathlib.Core.Bool.{Bool, true, false, not, _&&_}
 use mathlib.Core.List.{List, _++_}
 use lib.Dec.{eqb}
 use lib.ListN.{getD, take, drop, replicate, set}
-use Rattle.sets.specs.Sets.{has, only, without, _∪_}
-use Rattle.flow.specs.Tables.{table, someBelow}
-use Rattle.flow.specs.Box.{containerCount, processCount, descriptorCount, own, slot, closed, State, itemsOf, feedersOf, fedBy, descriptor, name}
-use Rattle.flow.specs.Links.{reach, given, used}
+use Rattle.sets.specs.Sets.{only, without, _∪_}
+use Rattle.flow.specs.Lists.{table}
+use Rattle.flow.specs.Box.{containerCount, descriptorCount, containerOf, slot, closed, Tables, State, feedersOf, feeds, descriptor, name}
+use Rattle.flow.specs.Links.{reach, given, isFed, used}
 
 pub data Kind : Type 0 where
   start : Kind
@@ -60,6 +60,10 @@ pub record Call : Type 0 where
   pub b : ℕ
   pub c : ℕ
 
+-- the call is of this kind
+unfoldable pub isKind : Kind → Call → Bool
+isKind k q = eqb (kindNumber (q .kind)) (kindNumber k)
+
 -- ---- how items move
 pub data Flow : Type 0 where
   still : Flow  -- no item moves
@@ -69,27 +73,19 @@ pub data Flow : Type 0 where
   copy : ℕ → ℕ → Flow  -- the second gets the first's items
   clear : ℕ → Flow  -- the container is emptied
 
--- ---- the state with one part changed
-unfoldable pub withItems : State → List ℕ → State
-withItems s x =
-    record { live = s .live; items = x; feeders = s .feeders; fed = s .fed; descriptors = s .descriptors; names = s .names; rules = s .rules }
-
-unfoldable pub withLive : State → ℕ → State
-withLive s x =
-    record { live = x; items = s .items; feeders = s .feeders; fed = s .fed; descriptors = s .descriptors; names = s .names; rules = s .rules }
-
-unfoldable pub withDescriptors : State → List ℕ → State
-withDescriptors s x =
-    record { live = s .live; items = s .items; feeders = s .feeders; fed = s .fed; descriptors = x; names = s .names; rules = s .rules }
-
-unfoldable pub withNames : State → List ℕ → State
-withNames s x =
-    record { live = s .live; items = s .items; feeders = s .feeders; fed = s .fed; descriptors = s .descriptors; names = x; rules = s .rules }
+-- ---- the tables with one part changed
+unfoldable pub withLive : Tables → ℕ → Tables
+withLive t x = record { live = x; feeders = t .feeders; fed = t .fed; descriptors = t .descriptors; names = t .names }
 
 -- the links of process p: the containers that feed it, and those that it feeds
-unfoldable pub withLinks : State → ℕ → ℕ → ℕ → State
-withLinks s p x y =
-    record { live = s .live; items = s .items; feeders = set (s .feeders) p x; fed = set (s .fed) p y; descriptors = s .descriptors; names = s .names; rules = s .rules }
+unfoldable pub withLinks : Tables → ℕ → ℕ → ℕ → Tables
+withLinks t p x y = record { live = t .live; feeders = set (t .feeders) p x; fed = set (t .fed) p y; descriptors = t .descriptors; names = t .names }
+
+unfoldable pub withDescriptors : Tables → List ℕ → Tables
+withDescriptors t x = record { live = t .live; feeders = t .feeders; fed = t .fed; descriptors = x; names = t .names }
+
+unfoldable pub withNames : Tables → List ℕ → Tables
+withNames t x = record { live = t .live; feeders = t .feeders; fed = t .fed; descriptors = t .descriptors; names = x }
 
 -- the descriptors with the 32 of process p replaced by these
 unfoldable pub putBlock : List ℕ → ℕ → List ℕ → List ℕ
@@ -99,86 +95,86 @@ putBlock l p block = take (slot p 0) l ++ block ++ drop (slot p descriptorCount)
 unfoldable pub block : List ℕ → ℕ → List ℕ
 block l p = take descriptorCount (drop (slot p 0) l)
 
--- a link leads into the file, pipe or device c
-unfoldable pub isFed : State → ℕ → Bool
-isFed s c = someBelow processCount (λ p. has (fedBy s p) c)
-
 -- ---- the table of calls: process p, fields a, b, c
-module _ (s : State) (p a b c : ℕ) where
-  abbrev setDescriptor : ℕ → ℕ → State
-  setDescriptor d e = withDescriptors s (set (s .descriptors) (slot p d) e)
+module _ (t : Tables) (p a b c : ℕ) where
+  abbrev setDescriptor : ℕ → ℕ → Tables
+  setDescriptor d e = withDescriptors t (set (t .descriptors) (slot p d) e)
 
   abbrev to : ℕ
-  to = descriptor s p a
+  to = descriptor t p a
 
-  -- live processes, links, descriptors and names after the call
-  unfoldable pub tablesBy : Kind → State
-  tablesBy start = withLive s (s .live ∪ only p)
-  tablesBy openName = setDescriptor b (name s a)
-  tablesBy create = withNames (setDescriptor b c) (set (s .names) a c)
-  tablesBy pipe = withDescriptors s (set (set (s .descriptors) (slot p a) c) (slot p b) c)
+  -- Live processes, links, descriptors and names after the call. A closed descriptor ends no mapping. A link is there or not: a second
+  -- mapping adds no second link, and one unmap ends both.
+  unfoldable pub tablesBy : Kind → Tables
+  tablesBy start = withLive t (t .live ∪ only p)
+  tablesBy openName = setDescriptor b (name t a)
+  tablesBy create = withNames (setDescriptor b c) (set (t .names) a c)
+  tablesBy pipe = withDescriptors t (set (set (t .descriptors) (slot p a) c) (slot p b) c)
   tablesBy device = setDescriptor a b
   tablesBy dup = setDescriptor b to
   tablesBy close = setDescriptor a closed
-  tablesBy read = s
-  tablesBy write = s
-  tablesBy truncate = s
-  tablesBy mapRead = withLinks s p (feedersOf s p ∪ only to) (fedBy s p)
-  tablesBy mapBoth = withLinks s p (feedersOf s p ∪ only to) (fedBy s p ∪ only to)
-  tablesBy unmap = withLinks s p (without (feedersOf s p) a) (without (fedBy s p) a)
-  tablesBy unlink = withNames s (set (s .names) a closed)
-  tablesBy rename = withNames s (set (set (s .names) a closed) b (name s a))
-  tablesBy link = withNames s (set (s .names) b (name s a))
+  tablesBy read = t
+  tablesBy write = t
+  tablesBy truncate = t
+  tablesBy mapRead = withLinks t p (feedersOf t p ∪ only to) (feeds t p)
+  tablesBy mapBoth = withLinks t p (feedersOf t p ∪ only to) (feeds t p ∪ only to)
+  tablesBy unmap = withLinks t p (without (feedersOf t p) a) (without (feeds t p) a)
+  tablesBy unlink = withNames t (set (t .names) a closed)
+  tablesBy rename = withNames t (set (set (t .names) a closed) b (name t a))
+  tablesBy link = withNames t (set (t .names) b (name t a))
   tablesBy fork =
-      withDescriptors (withLive (withLinks s a (feedersOf s p) (fedBy s p)) (s .live ∪ only a)) (putBlock (s .descriptors) a (block (s .descriptors) p))
+      withDescriptors (withLive (withLinks t a (feedersOf t p) (feeds t p)) (t .live ∪ only a)) (putBlock (t .descriptors) a (block (t .descriptors) p))
   tablesBy exit =
-      withDescriptors (withLive (withLinks s p 0 0) (without (s .live) p)) (putBlock (s .descriptors) p (replicate descriptorCount closed))
-  tablesBy label = s
+      withDescriptors (withLive (withLinks t p 0 0) (without (t .live) p)) (putBlock (t .descriptors) p (replicate descriptorCount closed))
+  tablesBy label = t
 
   -- the items that move
   unfoldable pub flowBy : Kind → Flow
-  flowBy start = clear (own p)
+  flowBy start = clear (containerOf p)
   flowBy openName = still
   flowBy create = clear c
   flowBy pipe = clear c
   flowBy device = still
   flowBy dup = still
   flowBy close = still
-  flowBy read = gift to (own p)
-  flowBy write = gift (own p) to
-  flowBy truncate = elim (isFed s to) [ true ↦ still | false ↦ clear to ]
-  flowBy mapRead = gift to (own p)
-  flowBy mapBoth = exchange to (own p)
+  flowBy read = gift to (containerOf p)
+  flowBy write = gift (containerOf p) to
+  flowBy truncate = elim (isFed t to) [ true ↦ still | false ↦ clear to ]
+  flowBy mapRead = gift to (containerOf p)
+  flowBy mapBoth = exchange to (containerOf p)
   flowBy unmap = still
   flowBy unlink = still
   flowBy rename = still
   flowBy link = still
-  flowBy fork = copy (own p) (own a)
-  flowBy exit = clear (own p)
+  flowBy fork = copy (containerOf p) (containerOf a)
+  flowBy exit = clear (containerOf p)
   flowBy label = arrival a b
 
--- ---- the change that a call makes
+-- ---- the change that a call makes: the tables after it, and how items move. It cannot touch rules, nor items but by its flow
 pub record Change : Type 0 where
-  pub tables : State
+  pub tables : Tables
   pub flow : Flow
 
-unfoldable pub change : State → Call → Change
-change s q = record { tables = tablesBy s (q .process) (q .a) (q .b) (q .c) (q .kind); flow = flowBy s (q .process) (q .a) (q .b) (q .c) (q .kind) }
+unfoldable pub change : Tables → Call → Change
+change t q = record { tables = tablesBy t (q .process) (q .a) (q .b) (q .c) (q .kind); flow = flowBy t (q .process) (q .a) (q .b) (q .c) (q .kind) }
 
 -- the items after they moved; reach goes by the links before the call
-unfoldable pub moved : State → Flow → List ℕ
-moved s still = s .items
-moved s (gift g u) = given (s .items) (reach s u) (itemsOf s g)
-moved s (arrival u i) = given (s .items) (reach s u) (only i)
-moved s (exchange u v) = given (given (s .items) (reach s v) (itemsOf s u)) (reach s u) (itemsOf s v)
-moved s (copy u v) = table containerCount (λ x. elim (eqb x v) [ true ↦ itemsOf s u | false ↦ itemsOf s x ])
-moved s (clear u) = table containerCount (λ x. elim (eqb x u) [ true ↦ 0 | false ↦ itemsOf s x ])
+unfoldable pub moved : Tables → List ℕ → Flow → List ℕ
+moved t items still = items
+moved t items (gift g u) = given items (reach t u) (getD items g 0)
+moved t items (arrival u i) = given items (reach t u) (only i)
+moved t items (exchange u v) = given (given items (reach t v) (getD items u 0)) (reach t u) (getD items v 0)
+moved t items (copy u v) = table containerCount (λ x. elim (eqb x v) [ true ↦ getD items u 0 | false ↦ getD items x 0 ])
+moved t items (clear u) = table containerCount (λ x. elim (eqb x u) [ true ↦ 0 | false ↦ getD items x 0 ])
 
--- the use of container c ends: it was in use in the state s before, and isn't in the state t after
-unfoldable pub ended : State → State → ℕ → Bool
-ended s t c = used s c && not (used t c)
+-- the use of container c ends: it was in use by the tables t before, and isn't by those after
+unfoldable pub ended : Tables → Tables → ℕ → Bool
+ended t after c = used t c && not (used after c)
 
--- the state after a change; what it ends the use of is emptied
+-- the items after a change; what it ends the use of is emptied, in the same call
+unfoldable pub itemsAfter : Tables → List ℕ → Change → List ℕ
+itemsAfter t items x = table containerCount (λ c. elim (ended t (x .tables) c) [ true ↦ 0 | false ↦ getD (moved t items (x .flow)) c 0 ])
+
+-- the state after a change
 unfoldable pub after : State → Change → State
-after s x =
-    withItems (x .tables) (table containerCount (λ c. elim (ended s (x .tables) c) [ true ↦ 0 | false ↦ getD (moved s (x .flow)) c 0 ]))
+after s x = record { tables = x .tables; items = itemsAfter (s .tables) (s .items) x; rules = s .rules }

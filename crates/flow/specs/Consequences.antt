@@ -7,11 +7,11 @@ use mathlib.Core.Bool.{Bool, true, false, _&&_}
 use mathlib.Core.List.{List, [], _∷_, _++_, map}
 use mathlib.Core.Option.{none, some}
 use lib.ListN.{getD, length, take}
-use Rattle.flow.specs.Tables.{Test, _⇒_}
-use Rattle.flow.specs.Box.{containerCount, processCount, descriptorCount, own, Rule, State, itemsOf, descriptor}
+use Rattle.flow.specs.Lists.{Test, _⇒_}
+use Rattle.flow.specs.Box.{containerCount, processCount, descriptorCount, containerOf, Rule, State, itemsOf, holds, descriptor}
 use Rattle.flow.specs.Links.{linked, used}
 use Rattle.flow.specs.Calls.{Kind, fork, kindNumber, Call, Change, change, after}
-use Rattle.flow.specs.Rules.{holds, broken, Numbered, lowestBroken}
+use Rattle.flow.specs.Rules.{broken, Numbered, lowestBroken}
 use Rattle.flow.specs.Records.{recordLength, kindOf, callOf, recordsOf}
 use Rattle.flow.specs.Refusals.{recordTests, refusal}
 use Rattle.flow.specs.Verdicts.{allows, inhibits, modifies, diversion, mayDivert, breaksNone, outcome, refused, allow, inhibit, answer, next, answerAll, runLog}
@@ -55,8 +55,8 @@ LowestReported = (s : State) (x : Numbered) → lowestBroken s ≡ some x → Lo
 unfoldable pub VerdictExactly : Type 0
 VerdictExactly =
     (s : State) (bytes : List ℕ) (q : Call) → refusal s bytes ≡ none → callOf bytes ≡ some q
-    → (let t = after s (change s q) in
-    (lowestBroken t ≡ none → outcome s bytes ≡ allows (change s q))
+    → (let t = after s (change (s .tables) q) in
+    (lowestBroken t ≡ none → outcome s bytes ≡ allows (change (s .tables) q))
     × ((x : Numbered) → lowestBroken t ≡ some x
     → (let d = diversion s q (x .rule) in
     (mayDivert s q (x .rule) ≡ true → lowestBroken (after s d) ≡ none → outcome s bytes ≡ modifies (x .number) (x .rule .substitute) d)
@@ -66,7 +66,7 @@ VerdictExactly =
 unfoldable pub NoGainAllowed : Type 0
 NoGainAllowed =
     (s : State) (bytes : List ℕ) (q : Call) → lowestBroken s ≡ none → refusal s bytes ≡ none → callOf bytes ≡ some q
-    → ((c i : ℕ) → c < containerCount → holds (after s (change s q)) c i ≡ true → holds s c i ≡ true) → outcome s bytes ≡ allows (change s q)
+    → ((c i : ℕ) → c < containerCount → holds (after s (change (s .tables) q)) c i ≡ true → holds s c i ≡ true) → outcome s bytes ≡ allows (change (s .tables) q)
 
 -- a refused or inhibited record leaves the state as it was
 unfoldable pub StoppedKeeps : Type 0
@@ -103,6 +103,6 @@ unfoldable pub ForkCopies : Type 0
 ForkCopies =
     (steps : List Step) (k p a : ℕ) → p < processCount → a < processCount
     → (let s = stateAt steps k in
-    let t = after s (change s (record { kind = fork; process = p; a = a; b = 0; c = 0 })) in
-    used s (own a) ≡ false
-    → (itemsOf t (own a) ≡ itemsOf s (own p)) × ((d : ℕ) → d < descriptorCount → descriptor t a d ≡ descriptor s p d) × ((u : ℕ) → linked t u (own a) ≡ linked s u (own p)) × ((v : ℕ) → linked t (own a) v ≡ linked s (own p) v))
+    let t = after s (change (s .tables) (record { kind = fork; process = p; a = a; b = 0; c = 0 })) in
+    used (s .tables) (containerOf a) ≡ false
+    → (itemsOf t (containerOf a) ≡ itemsOf s (containerOf p)) × ((d : ℕ) → d < descriptorCount → descriptor (t .tables) a d ≡ descriptor (s .tables) p d) × ((u : ℕ) → linked (t .tables) u (containerOf a) ≡ linked (s .tables) u (containerOf p)) × ((v : ℕ) → linked (t .tables) (containerOf a) v ≡ linked (s .tables) (containerOf p) v))

@@ -6,9 +6,9 @@ use mathlib.Core.Option.{Option, none, some}
 use lib.Dec.{eqb}
 use lib.ListN.{getD}
 use Rattle.sets.specs.Sets.{has}
-use Rattle.flow.specs.Box.{containerCount, State, fresh}
+use Rattle.flow.specs.Box.{containerCount, Tables, State, fresh}
 use Rattle.flow.specs.Links.{linked, reach}
-use Rattle.flow.specs.Calls.{kindNumber, Call, Flow, still, gift, arrival, exchange, copy, clear, Change, ended}
+use Rattle.flow.specs.Calls.{label, Call, isKind, Flow, still, gift, arrival, exchange, copy, clear, Change, ended}
 use Rattle.flow.specs.Records.{callOf}
 use Rattle.flow.specs.Verdicts.{Outcome, refuses, loads, allows, inhibits, modifies, outcome, stateAfter}
 
@@ -33,36 +33,36 @@ pub record Machine (W : Type 0) : Type 0 where
   pub memory : ℕ → W → ℕ → List (Feeder W) → W
 
 module _ {W : Type 0} (m : Machine W) where
-  -- what a flow at place n makes of the contents of container v: s is the state before, input what a label brings in, κ the contents before
-  unfoldable pub flowed : ℕ → W → State → Flow → (ℕ → W) → ℕ → W
-  flowed n input s still κ v = κ v
-  flowed n input s (gift g u) κ v = elim (has (reach s u) v) [ true ↦ m .gift v (κ v) n (κ g) | false ↦ κ v ]
-  flowed n input s (arrival u i) κ v = elim (has (reach s u) v) [ true ↦ m .gift v (κ v) n input | false ↦ κ v ]
-  flowed n input s (exchange a b) κ v =
-      elim (has (reach s b) v) [
-        | true ↦ elim (has (reach s a) v) [ true ↦ m .bothGifts v (κ v) n (κ a) (κ b) | false ↦ m .gift v (κ v) n (κ a) ]
-        | false ↦ elim (has (reach s a) v) [ true ↦ m .gift v (κ v) n (κ b) | false ↦ κ v ]
+  -- what a flow at place n makes of the contents of container v: t are the tables before, input what a label brings in, κ the contents before
+  unfoldable pub flowed : ℕ → W → Tables → Flow → (ℕ → W) → ℕ → W
+  flowed n input t still κ v = κ v
+  flowed n input t (gift g u) κ v = elim (has (reach t u) v) [ true ↦ m .gift v (κ v) n (κ g) | false ↦ κ v ]
+  flowed n input t (arrival u i) κ v = elim (has (reach t u) v) [ true ↦ m .gift v (κ v) n input | false ↦ κ v ]
+  flowed n input t (exchange a b) κ v =
+      elim (has (reach t b) v) [
+        | true ↦ elim (has (reach t a) v) [ true ↦ m .bothGifts v (κ v) n (κ a) (κ b) | false ↦ m .gift v (κ v) n (κ a) ]
+        | false ↦ elim (has (reach t a) v) [ true ↦ m .gift v (κ v) n (κ b) | false ↦ κ v ]
       ]
-  flowed n input s (copy a b) κ v = elim (eqb v b) [ true ↦ m .fork v (κ v) n (κ a) | false ↦ κ v ]
-  flowed n input s (clear u) κ v = elim (eqb v u) [ true ↦ m .empty | false ↦ κ v ]
+  flowed n input t (copy a b) κ v = elim (eqb v b) [ true ↦ m .fork v (κ v) n (κ a) | false ↦ κ v ]
+  flowed n input t (clear u) κ v = elim (eqb v u) [ true ↦ m .empty | false ↦ κ v ]
 
   -- a change moves contents, and what it ends the use of is emptied
-  unfoldable pub changed : ℕ → W → State → Change → (ℕ → W) → ℕ → W
-  changed n input s x κ v = elim (ended s (x .tables) v) [ true ↦ m .empty | false ↦ flowed n input s (x .flow) κ v ]
+  unfoldable pub changed : ℕ → W → Tables → Change → (ℕ → W) → ℕ → W
+  changed n input t x κ v = elim (ended t (x .tables) v) [ true ↦ m .empty | false ↦ flowed n input t (x .flow) κ v ]
 
   -- allowed and modified calls make their change; no other record changes contents
   unfoldable pub contentsAfter : ℕ → W → State → Outcome → (ℕ → W) → ℕ → W
   contentsAfter n input s (refuses k) κ = κ
   contentsAfter n input s (loads k r) κ = κ
-  contentsAfter n input s (allows x) κ = changed n input s x κ
+  contentsAfter n input s (allows x) κ = changed n input (s .tables) x κ
   contentsAfter n input s (inhibits k) κ = κ
-  contentsAfter n input s (modifies k c x) κ = changed n input s x κ
+  contentsAfter n input s (modifies k c x) κ = changed n input (s .tables) x κ
 
   -- of the containers below n, those that link to v, with their contents
   unfoldable pub linkedTo : State → (ℕ → W) → ℕ → ℕ → List (Feeder W)
   linkedTo s κ v zero = []
   linkedTo s κ v (suc u) =
-      elim (linked s u v) [ true ↦ record { container = u; contents = κ u } ∷ linkedTo s κ v u | false ↦ linkedTo s κ v u ]
+      elim (linked (s .tables) u v) [ true ↦ record { container = u; contents = κ u } ∷ linkedTo s κ v u | false ↦ linkedTo s κ v u ]
 
   -- the contents after a step
   unfoldable pub stepContents : ℕ → W → State → Step → (ℕ → W) → ℕ → W
@@ -99,7 +99,7 @@ runAt m inputs steps (suc k) =
 -- the item of a label
 unfoldable pub labelOf : Option Call → Option ℕ
 labelOf none = none
-labelOf (some q) = elim (eqb (kindNumber (q .kind)) 19) [ true ↦ some (q .b) | false ↦ none ]
+labelOf (some q) = elim (isKind label q) [ true ↦ some (q .b) | false ↦ none ]
 
 -- the item that a step labels, if the step is a label
 unfoldable pub itemLabelled : Step → Option ℕ

@@ -2,21 +2,21 @@
 use Prim.Native.Nat.{ℕ, _≤_, _<_}
 use mathlib.Core.Path.{_≡_}
 use mathlib.Core.Logic.{_⊎_, _↔_}
-use mathlib.Core.Bool.{Bool, true, false, not, _&&_}
+use mathlib.Core.Bool.{Bool, true, false, _&&_}
 use mathlib.Core.List.{List, [], _∷_}
 use mathlib.Core.Option.{none}
-use lib.Dec.{ltb}
 use lib.ListN.{getD, length}
 use Rattle.sets.specs.Sets.{has}
-use Rattle.flow.specs.Box.{containerCount, processCount, descriptorCount, ruleCount, isProcess, isFile, leads, closed, Rule, State, itemsOf, descriptor}
+use Rattle.flow.specs.Lists.{firstThat, isNone}
+use Rattle.flow.specs.Box.{containerCount, processCount, descriptorCount, ruleCount, isProcess, isFile, isTarget, closed, Rule, State, itemsOf, holds, isLive, descriptor}
 use Rattle.flow.specs.Links.{linked, used, Reaches, reach}
-use Rattle.flow.specs.Rules.{holds, lowestBroken}
-use Rattle.flow.specs.Refusals.{itemsFit, substituteFits, sameItems}
+use Rattle.flow.specs.Rules.{lowestBroken}
+use Rattle.flow.specs.Refusals.{fieldTests}
 use Rattle.flow.specs.Contents.{Step, stateAt}
 
 -- refusals 4, 5 and 9 don't apply to the rule
 unfoldable pub wellFormed : Rule → Bool
-wellFormed r = ltb (r .action) 2 && (itemsFit (r .condition) && substituteFits r) && not (sameItems (r .condition))
+wellFormed r = isNone (firstThat (fieldTests r))
 
 unfoldable pub allWellFormed : List Rule → Bool
 allWellFormed [] = true
@@ -24,25 +24,25 @@ allWellFormed (r ∷ rs) = wellFormed r && allWellFormed rs
 
 pub record Kept (s : State) : Type 0 where
   -- where u links to v, v holds what u holds
-  pub along : (u v i : ℕ) → u < containerCount → v < containerCount → linked s u v ≡ true → holds s u i ≡ true → holds s v i ≡ true
+  pub along : (u v i : ℕ) → u < containerCount → v < containerCount → linked (s .tables) u v ≡ true → holds s u i ≡ true → holds s v i ≡ true
   -- what is not in use holds nothing
-  pub bare : (c : ℕ) → c < containerCount → used s c ≡ false → itemsOf s c ≡ 0
+  pub bare : (c : ℕ) → c < containerCount → used (s .tables) c ≡ false → itemsOf s c ≡ 0
   -- no loaded rule is broken
   pub unbroken : lowestBroken s ≡ none
   -- refusals 4, 5 and 9 apply to none of them, and there are at most 32
   pub loadable : allWellFormed (s .rules) ≡ true
   pub counted : length (s .rules) ≤ ruleCount
   -- everything that is linked is in use, so a linked process is live
-  pub live : (u v : ℕ) → linked s u v ≡ true → (used s u ≡ true) × (used s v ≡ true)
+  pub live : (u v : ℕ) → linked (s .tables) u v ≡ true → (used (s .tables) u ≡ true) × (used (s .tables) v ≡ true)
   -- a link joins a process and a device, a file or a pipe
-  pub joined : (u v : ℕ) → linked s u v ≡ true → ((leads u ≡ true) × (isProcess v ≡ true)) ⊎ ((isProcess u ≡ true) × (leads v ≡ true))
+  pub joined : (u v : ℕ) → linked (s .tables) u v ≡ true → ((isTarget u ≡ true) × (isProcess v ≡ true)) ⊎ ((isProcess u ≡ true) × (isTarget v ≡ true))
   -- a descriptor is closed or leads to a device, a file or a pipe, a name is unbound or leads to a file or pipe
-  pub described : (k : ℕ) → (getD (s .descriptors) k closed ≡ closed) ⊎ (leads (getD (s .descriptors) k closed) ≡ true)
-  pub named : (k : ℕ) → (getD (s .names) k closed ≡ closed) ⊎ (isFile (getD (s .names) k closed) ≡ true)
+  pub described : (k : ℕ) → (getD (s .tables .descriptors) k closed ≡ closed) ⊎ (isTarget (getD (s .tables .descriptors) k closed) ≡ true)
+  pub named : (k : ℕ) → (getD (s .tables .names) k closed ≡ closed) ⊎ (isFile (getD (s .tables .names) k closed) ≡ true)
   -- a dead process has no open descriptor
-  pub dead : (p d : ℕ) → p < processCount → d < descriptorCount → has (s .live) p ≡ false → descriptor s p d ≡ closed
+  pub dead : (p d : ℕ) → p < processCount → d < descriptorCount → isLive (s .tables) p ≡ false → descriptor (s .tables) p d ≡ closed
   -- the reach is what links lead to
-  pub reached : (u v : ℕ) → u < containerCount → has (reach s u) v ≡ true ↔ Reaches s u v
+  pub reached : (u v : ℕ) → u < containerCount → has (reach (s .tables) u) v ≡ true ↔ Reaches (s .tables) u v
 
 unfoldable pub EveryRecordKeeps : Type 0
 EveryRecordKeeps = (steps : List Step) (k : ℕ) → Kept (stateAt steps k)

@@ -1,4 +1,4 @@
-pub mod Tables
+pub mod Lists
 pub mod Box
 pub mod Links
 pub mod Calls

@@ -7,9 +7,8 @@ use mathlib.Core.Option.{Option, none, some}
 use lib.Dec.{ltb, leb, eqb}
 use lib.ListN.{length, take, drop}
 use Rattle.sets.specs.Sets.{has, those, count, bit}
-use Rattle.flow.specs.Tables.{_⇒_, firstThat}
-use Rattle.flow.specs.Box.{containerCount, itemCount, State, itemsOf}
-use Rattle.flow.specs.Rules.{holds}
+use Rattle.flow.specs.Lists.{_⇒_, firstThat}
+use Rattle.flow.specs.Box.{containerCount, itemCount, State, itemsOf, holds}
 
 -- an answer: a refusal's number, or the result
 pub data Reply : Type 0 where

@@ -5,6 +5,7 @@ use mathlib.Core.List.{List, [], _∷_}
 use mathlib.Core.Option.{Option, none, some}
 use lib.Dec.{ltb, eqb}
 use lib.ListN.{getD, length, take, drop}
+use Rattle.flow.specs.Lists.{Test, _⇒_, firstThat}
 use Rattle.flow.specs.Box.{Condition, forbid, separate, confine, Rule}
 use Rattle.flow.specs.Calls.{Kind, start, openName, create, pipe, device, dup, close, read, write, truncate, mapRead, mapBoth, unmap, unlink, rename, link, fork, exit, label, Call}
 
@@ -82,24 +83,27 @@ kinds =
 unfoldable pub kindOf : ℕ → Option Kind
 kindOf n = getD kinds n none
 
--- a call of this kind, with the fields of the value
-unfoldable pub callIn : List ℕ → Option Kind → Option Call
-callIn v none = none
-callIn v (some k) = some (record { kind = k; process = byteAt v 1; a = byteAt v 2; b = byteAt v 3; c = byteAt v 4 })
+-- a call of this kind: process, a, b, c
+unfoldable pub callBy : Option Kind → ℕ → ℕ → ℕ → ℕ → Option Call
+callBy none p a b c = none
+callBy (some k) p a b c = some (record { kind = k; process = p; a = a; b = b; c = c })
 
 -- the call of five bytes, if its kind is known
 unfoldable pub callFrom : ℕ → ℕ → ℕ → ℕ → ℕ → Option Call
-callFrom kind p a b c = callIn (kind ∷ p ∷ a ∷ b ∷ c ∷ []) (kindOf kind)
+callFrom kind p a b c = callBy (kindOf kind) p a b c
 
--- the call in a whole record with a call's tag and length, if its kind is known
-unfoldable pub callOf : List ℕ → Option Call
-callOf bytes =
-    elim (eqb (tagOf bytes) callTag && not (cutShort bytes) && not (wrongLength bytes)) [
-      | true ↦ callIn (valueOf bytes) (kindOf (byteAt (valueOf bytes) 0))
-      | false ↦ none
-    ]
+unfoldable pub callIn : List ℕ → Option Call
+callIn v = callFrom (byteAt v 0) (byteAt v 1) (byteAt v 2) (byteAt v 3) (byteAt v 4)
 
 -- ---- a rule
+-- the condition of a rule's tag, with its item and the container set; tag 12 hex has its second item in place of a set
+unfoldable pub conditionOf : ℕ → ℕ → ℕ → Condition
+conditionOf tag i x =
+    elim (eqb tag forbidTag) [
+      | true ↦ forbid i x
+      | false ↦ elim (eqb tag separateTag) [ true ↦ separate i x | false ↦ confine i x ]
+    ]
+
 -- the number of these bytes, high byte first, where the bytes before them make n
 unfoldable pub numberFrom : ℕ → List ℕ → ℕ
 numberFrom n [] = n
@@ -113,19 +117,45 @@ setIn v = numberFrom 0 (take 8 (drop 1 v))
 unfoldable pub ruleWith : Condition → List ℕ → ℕ → Rule
 ruleWith condition v n = record { condition = condition; action = byteAt v n; substitute = byteAt v (suc n) }
 
--- the rule in a record with a rule's tag
-unfoldable pub ruleOf : List ℕ → Rule
-ruleOf bytes =
-    let v = valueOf bytes in
-    elim (eqb (tagOf bytes) forbidTag) [
-      | true ↦ ruleWith (forbid (byteAt v 0) (setIn v)) v 9
-      | false ↦ elim (eqb (tagOf bytes) separateTag) [
-        | true ↦ ruleWith (separate (byteAt v 0) (byteAt v 1)) v 2
-        | false ↦ ruleWith (confine (byteAt v 0) (setIn v)) v 9
-      ]
+-- the rule in a value with a rule's tag
+unfoldable pub ruleIn : ℕ → List ℕ → Rule
+ruleIn tag v =
+    elim (eqb tag separateTag) [
+      | true ↦ ruleWith (conditionOf tag (byteAt v 0) (byteAt v 1)) v 2
+      | false ↦ ruleWith (conditionOf tag (byteAt v 0) (setIn v)) v 9
     ]
 
--- ---- a log: the records in it, each as its bytes; the last may be cut short. At most n records
+-- ---- what stands at the front of the bytes
+pub data Reading : Type 0 where
+  unreadable : ℕ → Reading  -- refused with 1, 2 or 3
+  aCall : Option Call → Reading  -- none where its kind is unknown
+  aRule : Rule → Reading
+
+-- 1: header or value runs past the end. 2: unknown tag. 3: not the tag's length
+unfoldable pub frameTests : List ℕ → List Test
+frameTests bytes = (cutShort bytes ⇒ 1) ∷ (not (knownTag (tagOf bytes)) ⇒ 2) ∷ (wrongLength bytes ⇒ 3) ∷ []
+
+-- by the tag
+unfoldable pub contentOf : List ℕ → Reading
+contentOf bytes = elim (eqb (tagOf bytes) callTag) [ true ↦ aCall (callIn (valueOf bytes)) | false ↦ aRule (ruleIn (tagOf bytes) (valueOf bytes)) ]
+
+unfoldable pub readingBy : List ℕ → Option ℕ → Reading
+readingBy bytes (some n) = unreadable n
+readingBy bytes none = contentOf bytes
+
+unfoldable pub reading : List ℕ → Reading
+reading bytes = readingBy bytes (firstThat (frameTests bytes))
+
+-- the call that was read
+unfoldable pub callRead : Reading → Option Call
+callRead (unreadable n) = none
+callRead (aCall q) = q
+callRead (aRule r) = none
+
+unfoldable pub callOf : List ℕ → Option Call
+callOf bytes = callRead (reading bytes)
+
+-- ---- a log: the records in it, each as its bytes, at most n. Only one that is cut short is the last: after any other refusal reading goes on
 unfoldable pub recordsIn : ℕ → List ℕ → List (List ℕ)
 recordsIn zero bytes = []
 recordsIn (suc n) [] = []

@@ -1,17 +1,17 @@
 -- Document 01, What a record gets: the table of refusals. For each kind of record one list of tests, of which the first that holds decides.
 use Prim.Native.Nat.{ℕ}
 use mathlib.Core.Bool.{Bool, true, false, not, _&&_, _||_}
-use mathlib.Core.List.{List, [], _∷_}
+use mathlib.Core.List.{List, [], _∷_, _++_}
 use mathlib.Core.Option.{Option, none, some}
 use lib.Dec.{ltb, leb, eqb}
 use lib.ListN.{length}
 use Rattle.sets.specs.Sets.{has}
-use Rattle.flow.specs.Tables.{Test, _⇒_, firstThat}
-use Rattle.flow.specs.Box.{containerCount, deviceCount, processCount, itemCount, nameCount, descriptorCount, ruleCount, isDevice, isFile, leads, Condition, forbid, separate, confine, Rule, State, feedersOf, fedBy, descriptor, name}
+use Rattle.flow.specs.Lists.{Test, _⇒_, firstThat}
+use Rattle.flow.specs.Box.{containerCount, deviceCount, processCount, itemCount, nameCount, descriptorCount, ruleCount, isDevice, isFile, isTarget, Condition, forbid, separate, confine, Rule, Tables, State, isLive, feedersOf, feeds, descriptor, isOpen, isBound}
 use Rattle.flow.specs.Links.{used}
-use Rattle.flow.specs.Calls.{Kind, start, openName, create, pipe, device, dup, close, read, write, truncate, mapRead, mapBoth, unmap, unlink, rename, link, fork, exit, label, kindNumber, Call}
+use Rattle.flow.specs.Calls.{Kind, start, openName, create, pipe, device, dup, close, read, write, truncate, mapRead, mapBoth, unmap, unlink, rename, link, fork, exit, label, Call, isKind}
 use Rattle.flow.specs.Rules.{broken}
-use Rattle.flow.specs.Records.{tagOf, callTag, cutShort, knownTag, wrongLength, callOf, ruleOf}
+use Rattle.flow.specs.Records.{Reading, unreadable, aCall, aRule, frameTests, contentOf}
 
 -- ---- 5: the ranges of the fields
 pub data Range : Type 0 where
@@ -68,29 +68,20 @@ ranges label = row unused aContainer anItem unused
 unfoldable pub fieldsFit : Ranges → Call → Bool
 fieldsFit r q = inRange (r .process) (q .process) && inRange (r .a) (q .a) && inRange (r .b) (q .b) && inRange (r .c) (q .c)
 
--- ---- 6 to 10: the state before the call, process p, fields a, b, c
-unfoldable pub isLive : State → ℕ → Bool
-isLive s p = has (s .live) p
-
-unfoldable pub isOpen : State → ℕ → ℕ → Bool
-isOpen s p d = leads (descriptor s p d)
-
-unfoldable pub isBound : State → ℕ → Bool
-isBound s n = leads (name s n)
-
+-- ---- 6 to 10: the tables before the call, process p, fields a, b, c
 -- 6: the calling process isn't live (not for start, label)
-unfoldable pub dead : State → Call → Bool
-dead s q = not (eqb (kindNumber (q .kind)) 1 || eqb (kindNumber (q .kind)) 19) && not (isLive s (q .process))
+unfoldable pub dead : Tables → Call → Bool
+dead t q = not (isKind start q || isKind label q) && not (isLive t (q .process))
 
-module _ (s : State) (p a b c : ℕ) where
+module _ (t : Tables) (p a b c : ℕ) where
   -- 7: process to start or fork live, descriptor to open in use, name to create or link's b bound, new container in use
   unfoldable pub taken : Kind → Bool
-  taken start = isLive s p
-  taken openName = isOpen s p b
-  taken create = isBound s a || isOpen s p b || used s c
-  taken pipe = isOpen s p a || isOpen s p b || used s c
-  taken device = isOpen s p a
-  taken dup = isOpen s p b
+  taken start = isLive t p
+  taken openName = isOpen t p b
+  taken create = isBound t a || isOpen t p b || used t c
+  taken pipe = isOpen t p a || isOpen t p b || used t c
+  taken device = isOpen t p a
+  taken dup = isOpen t p b
   taken close = false
   taken read = false
   taken write = false
@@ -100,54 +91,54 @@ module _ (s : State) (p a b c : ℕ) where
   taken unmap = false
   taken unlink = false
   taken rename = false
-  taken link = isBound s b
-  taken fork = isLive s a
+  taken link = isBound t b
+  taken fork = isLive t a
   taken exit = false
   taken label = false
 
   -- 8: descriptor a closed, name a unbound, no link to unmap, container to label not in use
   unfoldable pub missing : Kind → Bool
   missing start = false
-  missing openName = not (isBound s a)
+  missing openName = not (isBound t a)
   missing create = false
   missing pipe = false
   missing device = false
-  missing dup = not (isOpen s p a)
-  missing close = not (isOpen s p a)
-  missing read = not (isOpen s p a)
-  missing write = not (isOpen s p a)
-  missing truncate = not (isOpen s p a)
-  missing mapRead = not (isOpen s p a)
-  missing mapBoth = not (isOpen s p a)
-  missing unmap = not (has (feedersOf s p) a || has (fedBy s p) a)
-  missing unlink = not (isBound s a)
-  missing rename = not (isBound s a)
-  missing link = not (isBound s a)
+  missing dup = not (isOpen t p a)
+  missing close = not (isOpen t p a)
+  missing read = not (isOpen t p a)
+  missing write = not (isOpen t p a)
+  missing truncate = not (isOpen t p a)
+  missing mapRead = not (isOpen t p a)
+  missing mapBoth = not (isOpen t p a)
+  missing unmap = not (has (feedersOf t p) a || has (feeds t p) a)
+  missing unlink = not (isBound t a)
+  missing rename = not (isBound t a)
+  missing link = not (isBound t a)
   missing fork = false
   missing exit = false
-  missing label = not (used s a)
+  missing label = not (used t a)
 
 -- 9: pipe's two descriptors equal
 unfoldable pub sameDescriptors : Call → Bool
-sameDescriptors q = eqb (kindNumber (q .kind)) 4 && eqb (q .a) (q .b)
+sameDescriptors q = isKind pipe q && eqb (q .a) (q .b)
 
 -- 10: truncate of a device
-unfoldable pub noFile : State → Call → Bool
-noFile s q = eqb (kindNumber (q .kind)) 10 && isDevice (descriptor s (q .process) (q .a))
+unfoldable pub noFile : Tables → Call → Bool
+noFile t q = isKind truncate q && isDevice (descriptor t (q .process) (q .a))
 
 -- ---- the tests of a call; 4 where its kind is unknown
-unfoldable pub callTests : State → Option Call → List Test
-callTests s none = (true ⇒ 4) ∷ []
-callTests s (some q) =
+unfoldable pub callTests : Tables → Option Call → List Test
+callTests t none = (true ⇒ 4) ∷ []
+callTests t (some q) =
     (not (fieldsFit (ranges (q .kind)) q) ⇒ 5)
-    ∷ (dead s q ⇒ 6)
-    ∷ (taken s (q .process) (q .a) (q .b) (q .c) (q .kind) ⇒ 7)
-    ∷ (missing s (q .process) (q .a) (q .b) (q .c) (q .kind) ⇒ 8)
+    ∷ (dead t q ⇒ 6)
+    ∷ (taken t (q .process) (q .a) (q .b) (q .c) (q .kind) ⇒ 7)
+    ∷ (missing t (q .process) (q .a) (q .b) (q .c) (q .kind) ⇒ 8)
     ∷ (sameDescriptors q ⇒ 9)
-    ∷ (noFile s q ⇒ 10)
+    ∷ (noFile t q ⇒ 10)
     ∷ []
 
--- ---- the tests of a rule: 11 where 32 rules are held, 12 where the present state breaks it
+-- ---- the tests of a rule
 unfoldable pub itemsFit : Condition → Bool
 itemsFit (forbid i x) = ltb i itemCount
 itemsFit (separate i j) = ltb i itemCount && ltb j itemCount
@@ -155,28 +146,30 @@ itemsFit (confine i x) = ltb i itemCount
 
 -- under action 0 the substitute is 0, under action 1 it is 0 to 7 or 24 to 63
 unfoldable pub substituteFits : Rule → Bool
-substituteFits r = elim (eqb (r .action) 0) [ true ↦ eqb (r .substitute) 0 | false ↦ leads (r .substitute) ]
+substituteFits r = elim (eqb (r .action) 0) [ true ↦ eqb (r .substitute) 0 | false ↦ isTarget (r .substitute) ]
 
 unfoldable pub sameItems : Condition → Bool
 sameItems (forbid i x) = false
 sameItems (separate i j) = eqb i j
 sameItems (confine i x) = false
 
+-- those that go by its fields alone
+unfoldable pub fieldTests : Rule → List Test
+fieldTests r =
+    (not (ltb (r .action) 2) ⇒ 4) ∷ (not (itemsFit (r .condition) && substituteFits r) ⇒ 5) ∷ (sameItems (r .condition) ⇒ 9) ∷ []
+
+-- 11 where 32 rules are held, 12 where the present state breaks it
 unfoldable pub ruleTests : State → Rule → List Test
-ruleTests s r =
-    (not (ltb (r .action) 2) ⇒ 4)
-    ∷ (not (itemsFit (r .condition) && substituteFits r) ⇒ 5)
-    ∷ (sameItems (r .condition) ⇒ 9)
-    ∷ (leb ruleCount (length (s .rules)) ⇒ 11)
-    ∷ (broken s r ⇒ 12)
-    ∷ []
+ruleTests s r = fieldTests r ++ ((leb ruleCount (length (s .rules)) ⇒ 11) ∷ (broken s r ⇒ 12) ∷ [])
 
 -- ---- the tests of any record
-unfoldable pub testsByTag : State → List ℕ → List Test
-testsByTag s bytes = elim (eqb (tagOf bytes) callTag) [ true ↦ callTests s (callOf bytes) | false ↦ ruleTests s (ruleOf bytes) ]
+unfoldable pub testsOf : State → Reading → List Test
+testsOf s (unreadable n) = (true ⇒ n) ∷ []
+testsOf s (aCall q) = callTests (s .tables) q
+testsOf s (aRule r) = ruleTests s r
 
 unfoldable pub recordTests : State → List ℕ → List Test
-recordTests s bytes = (cutShort bytes ⇒ 1) ∷ (not (knownTag (tagOf bytes)) ⇒ 2) ∷ (wrongLength bytes ⇒ 3) ∷ testsByTag s bytes
+recordTests s bytes = frameTests bytes ++ testsOf s (contentOf bytes)
 
 unfoldable pub refusal : State → List ℕ → Option ℕ
 refusal s bytes = firstThat (recordTests s bytes)

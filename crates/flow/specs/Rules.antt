@@ -5,12 +5,8 @@ use mathlib.Core.List.{List, [], _∷_}
 use mathlib.Core.Option.{Option, none, some}
 use lib.Dec.{eqb}
 use Rattle.sets.specs.Sets.{has}
-use Rattle.flow.specs.Tables.{someBelow}
-use Rattle.flow.specs.Box.{containerCount, Condition, forbid, separate, confine, Rule, State, itemsOf}
-
--- container c holds item i
-unfoldable pub holds : State → ℕ → ℕ → Bool
-holds s c i = has (itemsOf s c) i
+use Rattle.flow.specs.Lists.{someBelow}
+use Rattle.flow.specs.Box.{containerCount, Condition, forbid, separate, confine, Rule, State, holds}
 
 -- what container c holds breaks the condition
 unfoldable pub breaks : State → Condition → ℕ → Bool

@@ -4,7 +4,7 @@ use mathlib.Core.Path.{_≡_}
 use mathlib.Core.Bool.{true, false}
 use mathlib.Core.List.{List, [], _∷_, _++_, map}
 use lib.Dec.{eqb}
-use Rattle.flow.specs.Tables.{table}
+use Rattle.flow.specs.Lists.{table}
 use Rattle.flow.specs.Box.{fresh, itemsOf}
 use Rattle.flow.specs.Calls.{Kind, start, openName, create, pipe, device, dup, close, read, write, truncate, mapRead, mapBoth, unmap, unlink, rename, link, fork, exit, label, kindNumber}
 use Rattle.flow.specs.Verdicts.{Answer, refused, rule, allow, inhibit, modify, runLog}

@@ -13,8 +13,8 @@ use Rattle.flow.specs.Queries.{result, itemsQuery}
 use Rattle.flow.specs.Contents.{Step, Machine, runAt, stepAt, itemLabelled}
 
 -- the items query answers none of the chosen items for container c
-unfoldable pub Clean : (ℕ → Bool) → State → ℕ → Type 0
-Clean chosen s c = (x : ℕ) → itemsQuery s c ≡ result x → (i : ℕ) → i < itemCount → chosen i ≡ true → has x i ≡ false
+unfoldable pub RecordedWithout : (ℕ → Bool) → State → ℕ → Type 0
+RecordedWithout chosen s c = (x : ℕ) → itemsQuery s c ≡ result x → (i : ℕ) → i < itemCount → chosen i ≡ true → has x i ≡ false
 
 -- some rule of the list forbids container c item i
 pub data Forbidden (c i : ℕ) : List Rule → Type 0 where
@@ -22,8 +22,8 @@ pub data Forbidden (c i : ℕ) : List Rule → Type 0 where
   later : {r : Rule} {rs : List Rule} → Forbidden c i rs → Forbidden c i (r ∷ rs)
 
 -- the loaded rules forbid container c every chosen item
-unfoldable pub Barred : (ℕ → Bool) → State → ℕ → Type 0
-Barred chosen s c = (i : ℕ) → i < itemCount → chosen i ≡ true → Forbidden c i (s .rules)
+unfoldable pub RulesForbid : (ℕ → Bool) → State → ℕ → Type 0
+RulesForbid chosen s c = (i : ℕ) → i < itemCount → chosen i ≡ true → Forbidden c i (s .rules)
 
 -- what comes in from outside is equal at every label of an item that is not chosen
 unfoldable pub Agree : {W : Type 0} → (ℕ → Bool) → List Step → (ℕ → W) → (ℕ → W) → Type 0
@@ -36,7 +36,7 @@ unfoldable pub Demand3 : Type 1
 Demand3 =
     (W : Type 0) (m : Machine W) (chosen : ℕ → Bool) (steps : List Step) (in₁ in₂ : ℕ → W) → Agree chosen steps in₁ in₂
     → (k : ℕ) → k ≤ length steps → (c : ℕ) → c < containerCount
-    → (Clean chosen (runAt m in₁ steps k .tracker) c ⊎ Clean chosen (runAt m in₂ steps k .tracker) c
+    → (RecordedWithout chosen (runAt m in₁ steps k .tracker) c ⊎ RecordedWithout chosen (runAt m in₂ steps k .tracker) c
     → runAt m in₁ steps k .contents c ≡ runAt m in₂ steps k .contents c)
-    × ((j : ℕ) → j ≤ k → Barred chosen (runAt m in₁ steps j .tracker) c ⊎ Barred chosen (runAt m in₂ steps j .tracker) c
+    × ((j : ℕ) → j ≤ k → RulesForbid chosen (runAt m in₁ steps j .tracker) c ⊎ RulesForbid chosen (runAt m in₂ steps j .tracker) c
     → runAt m in₁ steps k .contents c ≡ runAt m in₂ steps k .contents c)

@@ -5,12 +5,13 @@ use mathlib.Core.List.{List, [], _∷_, _++_}
 use mathlib.Core.Option.{Option, none, some}
 use lib.Dec.{eqb}
 use lib.ListN.{length}
-use Rattle.flow.specs.Box.{own, Rule, State}
+use Rattle.flow.specs.Lists.{firstThat, isNone}
+use Rattle.flow.specs.Box.{containerOf, Rule, State}
 use Rattle.flow.specs.Links.{used}
-use Rattle.flow.specs.Calls.{kindNumber, Call, gift, Change, change, after}
+use Rattle.flow.specs.Calls.{write, Call, isKind, gift, Change, change, after}
 use Rattle.flow.specs.Rules.{Numbered, lowestBroken}
-use Rattle.flow.specs.Records.{callOf, ruleOf, recordsOf}
-use Rattle.flow.specs.Refusals.{refusal}
+use Rattle.flow.specs.Records.{Reading, unreadable, aCall, aRule, reading, recordsOf}
+use Rattle.flow.specs.Refusals.{callTests, ruleTests}
 
 -- what a record gets, with the change that it makes
 pub data Outcome : Type 0 where
@@ -22,14 +23,14 @@ pub data Outcome : Type 0 where
 
 -- a write to the substitute instead
 unfoldable pub diversion : State → Call → Rule → Change
-diversion s q r = record { tables = s; flow = gift (own (q .process)) (r .substitute) }
+diversion s q r = record { tables = s .tables; flow = gift (containerOf (q .process)) (r .substitute) }
 
 -- the rule diverts, the call is a write, and the substitute is in use
 unfoldable pub mayDivert : State → Call → Rule → Bool
-mayDivert s q r = eqb (r .action) 1 && eqb (kindNumber (q .kind)) 9 && used s (r .substitute)
+mayDivert s q r = eqb (r .action) 1 && isKind write q && used (s .tables) (r .substitute)
 
 unfoldable pub breaksNone : State → Bool
-breaksNone s = elim (lowestBroken s) [ none ↦ true | some x ↦ false ]
+breaksNone s = isNone (lowestBroken s)
 
 -- the outcome where the lowest broken rule is r, number n
 unfoldable pub stopped : State → Call → ℕ → Rule → Outcome
@@ -41,24 +42,30 @@ stopped s q n r =
 
 -- a call is worked out first; if no rule is broken after it: allow
 unfoldable pub verdictBy : State → Call → Option Numbered → Outcome
-verdictBy s q none = allows (change s q)
+verdictBy s q none = allows (change (s .tables) q)
 verdictBy s q (some x) = stopped s q (x .number) (x .rule)
 
 unfoldable pub verdict : State → Call → Outcome
-verdict s q = verdictBy s q (lowestBroken (after s (change s q)))
+verdict s q = verdictBy s q (lowestBroken (after s (change (s .tables) q)))
 
--- a record that is not refused is a call or a rule
-unfoldable pub accepted : State → List ℕ → Option Call → Outcome
-accepted s bytes (some q) = verdict s q
-accepted s bytes none = loads (length (s .rules)) (ruleOf bytes)
+-- ---- what a record gets, by what was read
+unfoldable pub outcomeOfCall : State → Option Call → Option ℕ → Outcome
+outcomeOfCall s q (some n) = refuses n
+outcomeOfCall s (some q) none = verdict s q
+outcomeOfCall s none none = refuses 4
 
-unfoldable pub outcomeBy : State → List ℕ → Option ℕ → Outcome
-outcomeBy s bytes (some n) = refuses n
-outcomeBy s bytes none = accepted s bytes (callOf bytes)
+unfoldable pub outcomeOfRule : State → Rule → Option ℕ → Outcome
+outcomeOfRule s r (some n) = refuses n
+outcomeOfRule s r none = loads (length (s .rules)) r
+
+unfoldable pub outcomeOf : State → Reading → Outcome
+outcomeOf s (unreadable n) = refuses n
+outcomeOf s (aCall q) = outcomeOfCall s q (firstThat (callTests (s .tables) q))
+outcomeOf s (aRule r) = outcomeOfRule s r (firstThat (ruleTests s r))
 
 -- what the record at the front of the bytes gets
 unfoldable pub outcome : State → List ℕ → Outcome
-outcome s bytes = outcomeBy s bytes (refusal s bytes)
+outcome s bytes = outcomeOf s (reading bytes)
 
 -- ---- the answer
 pub data Answer : Type 0 where
@@ -80,8 +87,7 @@ answer s bytes = answerOf (outcome s bytes)
 
 -- ---- the state after it
 unfoldable pub withRule : State → Rule → State
-withRule s r =
-    record { live = s .live; items = s .items; feeders = s .feeders; fed = s .fed; descriptors = s .descriptors; names = s .names; rules = s .rules ++ (r ∷ []) }
+withRule s r = record { tables = s .tables; items = s .items; rules = s .rules ++ (r ∷ []) }
 
 unfoldable pub stateAfter : State → Outcome → State
 stateAfter s (refuses n) = s
@@ -94,16 +100,16 @@ unfoldable pub next : State → List ℕ → State
 next s bytes = stateAfter s (outcome s bytes)
 
 -- ---- a log: one answer for each record, each meeting the state as the one before left it
-pub record Answered : Type 0 where
+pub record Replay : Type 0 where
   pub answers : List Answer
   pub state : State
 
-unfoldable pub answerAll : State → List (List ℕ) → Answered
+unfoldable pub answerAll : State → List (List ℕ) → Replay
 answerAll s [] = record { answers = []; state = s }
 answerAll s (r ∷ rs) =
     let o = outcome s r in
     let rest = answerAll (stateAfter s o) rs in
     record { answers = answerOf o ∷ rest .answers; state = rest .state }
 
-unfoldable pub runLog : State → List ℕ → Answered
+unfoldable pub runLog : State → List ℕ → Replay
 runLog s log = answerAll s (recordsOf log)

@@ -1,4 +1,4 @@
--- Tables made from a function, and lists of tests.
+-- Lists made from a function, and lists of tests.
 use Prim.Native.Nat.{ℕ, zero, suc}
 use mathlib.Core.Bool.{Bool, true, false}
 use mathlib.Core.List.{List, [], _∷_}
@@ -33,3 +33,12 @@ pub data Test : Type 0 where
 unfoldable pub firstThat : List Test → Option ℕ
 firstThat [] = none
 firstThat ((b ⇒ n) ∷ ts) = elim b [ true ↦ some n | false ↦ firstThat ts ]
+
+-- a number as a refusal: 0 stands for none
+unfoldable pub refusalFrom : ℕ → Option ℕ
+refusalFrom zero = none
+refusalFrom (suc n) = some (suc n)
+
+unfoldable pub isNone : {A : Type 0} → Option A → Bool
+isNone none = true
+isNone (some x) = false
