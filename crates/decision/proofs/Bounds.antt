@@ -14,7 +14,7 @@ use lib.Pow.{pow-pos}
 use borrow.Author.Tests.{ltb-true, leb-false, not-false}
 use Rattle.sets.specs.Sets.{has, only, _∪_}
 use Rattle.sets.proofs.Members.{without-lt, only-lt, union-lt}
-use Rattle.flow.specs.Tables.{table, Test}
+use Rattle.flow.specs.Lists.{table, Test}
 use Rattle.flow.specs.Box.{Rule, State, fresh, itemsOf, name, closed}
 use Rattle.flow.specs.Links.{given, reach}
 use Rattle.flow.specs.Calls.{Kind, start, openName, create, pipe, device, dup, close, read, write, truncate, mapRead, mapBoth, unmap, unlink, rename, link, fork, exit, label, Call, Flow, still, gift, arrival, exchange, copy, clear, withItems, withLive, withDescriptors, withNames, withLinks, tablesBy, Change, change, moved, ended, after}

@@ -6,7 +6,7 @@ use mathlib.Core.Bool.{Bool, true, false, not}
 use mathlib.Core.List.{List, []}
 use mathlib.Core.Option.{none}
 use lib.Dec.{eqb}
-use Rattle.flow.specs.Tables.{firstThat, tableFrom, table}
+use Rattle.flow.specs.Lists.{firstThat, tableFrom, table}
 use Rattle.flow.specs.Box.{itemsOf, State}
 use Rattle.flow.specs.Calls.{Kind, start, openName, create, pipe, device, dup, close, read, write, truncate, mapRead, mapBoth, unmap, unlink, rename, link, fork, exit, label, kindNumber, Call, still, clear, isFed, flowBy, moved, change, after}
 use Rattle.flow.specs.Rules.{holds, firstBroken, lowestBroken}

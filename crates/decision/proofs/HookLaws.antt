@@ -5,7 +5,7 @@ use mathlib.Core.Path.{_≡_, refl, sym, ap, subst, _∙_}
 use mathlib.Core.List.{List, map}
 use lib.ListN.{List·getD-map, length-map}
 use Rattle.flow.specs.Box.{State}
-use Rattle.flow.specs.Tables.{firstThat}
+use Rattle.flow.specs.Lists.{firstThat}
 use Rattle.flow.specs.Records.{byteAt, tagOf, statedLength, recordLength, valueOf, cutShort, knownTag, tagLength, wrongLength}
 use Rattle.flow.specs.Verdicts.{Outcome, outcome}
 use Rattle.flow.specs.Contents.{entry, memory, stepAt}

@@ -10,7 +10,7 @@ use lib.ListN.{getD}
 use borrow.Author.Tests.{eqb-true, eqb-false, eq-eqb, ne-eqb, ltb-true, ltb-false, lt-ltb, le-ltb}
 use Rattle.sets.specs.Sets.{has, those, _∩_}
 use Rattle.sets.proofs.Members.{those-has, those-lt, inter-has, inter-lt, none-has, has-lt, set-ext, some-member}
-use Rattle.flow.specs.Tables.{tableFrom, table, someBelow}
+use Rattle.flow.specs.Lists.{tableFrom, table, someBelow}
 use Rattle.flow.specs.Box.{itemCount, Condition, forbid, separate, confine, Rule, State}
 use Rattle.flow.specs.Links.{meets}
 use Rattle.flow.specs.Rules.{holds, breaks, broken, Numbered, firstBroken, lowestBroken}

@@ -10,7 +10,7 @@ use lib.Dec.{ltb, leb, eqb}
 use lib.ListN.{length, set}
 use lib.Seq.{getD-set-same, getD-set-other}
 use borrow.Author.Tests.{eqb-true, ltb-true, lt-ltb, ltb-false, le-ltb, le-leb, lt-leb}
-use Rattle.flow.specs.Tables.{_⇒_, firstThat, tableFrom, table}
+use Rattle.flow.specs.Lists.{_⇒_, firstThat, tableFrom, table}
 use Rattle.flow.specs.Box.{itemCount, leads, Condition, forbid, separate, confine, Rule, State}
 use Rattle.flow.specs.Rules.{broken}
 use Rattle.flow.specs.Refusals.{itemsFit, substituteFits, sameItems, ruleTests}

@@ -9,7 +9,7 @@ use lib.Dec.{ltb, eqb}
 use lib.ListN.{getD, length}
 use lib.Seq.{ext-getD}
 use borrow.Author.Tests.{ltb-true, ltb-false, eqb-true}
-use Rattle.flow.specs.Tables.{table}
+use Rattle.flow.specs.Lists.{table}
 use Rattle.flow.specs.Box.{Condition, forbid, separate, confine, Rule, State, leads}
 use Rattle.flow.specs.Records.{forbidTag, separateTag, confineTag}
 use Rattle.flow.specs.Refusals.{itemsFit, substituteFits, sameItems}

@@ -10,7 +10,7 @@ use mathlib.Core.Option.{Option, none, some}
 use lib.Dec.{ltb, eqb}
 use lib.ListN.{getD, length, List·getD-eq-default}
 use borrow.Author.Tests.{ltb-true}
-use Rattle.flow.specs.Tables.{table, Test, _⇒_, firstThat}
+use Rattle.flow.specs.Lists.{table, Test, _⇒_, firstThat}
 use Rattle.flow.specs.Box.{Rule, State}
 use Rattle.flow.specs.Calls.{Call, change, after}
 use Rattle.flow.specs.Rules.{broken, Numbered, firstBroken, lowestBroken}

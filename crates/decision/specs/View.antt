@@ -2,7 +2,7 @@
 use Prim.Native.Nat.{ℕ, _%_}
 use mathlib.Core.List.{List}
 use lib.ListN.{getD}
-use Rattle.flow.specs.Tables.{table}
+use Rattle.flow.specs.Lists.{table}
 use Rattle.flow.specs.Box.{containerCount, Rule, State}
 use Rattle.tracker.specs.declared.Tracker.{Tracker}
 use Rattle.tracker.specs.View.{view as trackerView}

@@ -9,7 +9,7 @@ use lib.Dec.{eqb}
 use lib.ListN.{getD, length, take, drop}
 use lib.Seq.{drop-cons}
 use borrow.Author.Tests.{ltb-false, not-false, eqb-true, eqb-false, eq-eqb, ne-eqb}
-use Rattle.flow.specs.Tables.{tableFrom, _⇒_, firstThat}
+use Rattle.flow.specs.Lists.{tableFrom, _⇒_, firstThat}
 use Rattle.flow.specs.Box.{forbid, separate, confine, Rule}
 use Rattle.flow.specs.Records.{byteAt, tagOf, callTag, forbidTag, separateTag, statedLength, recordLength, valueOf, cutShort, knownTag, tagLength, wrongLength, numberFrom, setIn, ruleWith, ruleOf}
 use Rattle.flow.proofs.Bools.{chosen-l, chosen-r}

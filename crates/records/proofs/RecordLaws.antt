@@ -10,7 +10,7 @@ use lib.Dec.{eqb}
 use lib.ListN.{length, take, drop, length-drop}
 use lib.Seq.{take-all, take-length, drop-length, getD-take, length-take-le, take-add, drop-at, take-take}
 use borrow.Author.Tests.{ltb-false, le-ltb}
-use Rattle.flow.specs.Tables.{Test, _⇒_, firstThat}
+use Rattle.flow.specs.Lists.{Test, _⇒_, firstThat}
 use Rattle.flow.specs.Box.{State}
 use Rattle.flow.specs.Calls.{Kind, Call}
 use Rattle.flow.specs.Records.{byteAt, tagOf, callTag, statedLength, recordLength, valueOf, cutShort, knownTag, wrongLength, kindOf, callIn, callFrom, callOf, ruleOf, recordsIn, recordsOf}

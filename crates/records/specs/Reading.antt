@@ -5,7 +5,7 @@ use mathlib.Core.List.{List, [], _∷_}
 use mathlib.Core.Option.{Option, none, some}
 use lib.Dec.{eqb}
 use lib.ListN.{length}
-use Rattle.flow.specs.Tables.{Test, _⇒_, firstThat}
+use Rattle.flow.specs.Lists.{Test, _⇒_, firstThat}
 use Rattle.flow.specs.Box.{forbid, separate, confine, Rule, State}
 use Rattle.flow.specs.Calls.{Call}
 use Rattle.flow.specs.Records.{byteAt, tagOf, callTag, valueOf, recordLength, cutShort, knownTag, wrongLength, callFrom, ruleOf}

@@ -1,7 +1,7 @@
 // The record at the front of a byte slice (document 01, The records), and how far it goes.
 ghost use mathlib.Core.Path.{_≡_};
 ghost use mathlib.Core.List.{[], _∷_};
-ghost use Rattle.flow.specs.Tables.{tableFrom, firstThat};
+ghost use Rattle.flow.specs.Lists.{tableFrom, firstThat};
 ghost use Rattle.flow.specs.Records.{byteAt, statedLength, cutShort, knownTag, tagLength, numberFrom};
 ghost use Rattle.records.specs.Reading.{reading, extentOf, readingOf, refusalOf, frameTests};
 

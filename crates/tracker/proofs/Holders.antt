@@ -14,16 +14,21 @@ use lib.Seq.{take-suc-set, drop-set-lt, drop-drop}
 use borrow.Author.Tests.{eq-eqb, ne-eqb, lt-ltb, le-ltb, lt-leb, le-leb, ltb-true, ltb-false}
 use Rattle.sets.specs.Sets.{has, only, _∪_, bit, thoseFrom, those, without, count, lowest}
 use Rattle.sets.proofs.Members.{those-has, those-lt, without-has, without-lt, none-has, only-has, only-lt, union-has, union-lt, past-has, has-lt, set-ext, lowest-has}
-use Rattle.flow.specs.Tables.{firstThat}
-use Rattle.flow.specs.Box.{State, itemsOf}
-use Rattle.flow.specs.Rules.{holds}
+use Rattle.flow.specs.Lists.{firstThat}
+use Rattle.flow.specs.Box.{State, itemsOf, holds}
 use Rattle.flow.specs.Queries.{refuse, result, itemsQuery, holders, holdersRefusal, replyBy, holdersQuery, occurs, Lists, SliceBy, HoldersSlice}
 use Rattle.flow.proofs.Bools.{by, chosen-l, chosen-r}
-use Rattle.tracker.proofs.Spreading.{and-none, and-all}
-use Rattle.tracker.specs.View.{state}
 use Rattle.tracker.specs.declared.queries.Reply.{Reply}
 use Rattle.tracker.specs.declared.queries.Reply.the-variants.{Result, Refused}
-use Rattle.tracker.specs.Replies.{replyOf, Answered, withHolder}
+use Rattle.tracker.specs.Replies.{replyOf, AnswersHolders, withHolder}
+
+and-none : (a : Bool) → (a && false) ≡ false
+and-none true = refl
+and-none false = refl
+
+and-all : (a : Bool) → a ≡ (a && true)
+and-all true = refl
+and-all false = refl
 
 or-none : (a : Bool) → a ≡ (a || false)
 or-none true = refl
@@ -85,11 +90,11 @@ found-has items i (suc n) j =
     go (yes e) = rw (← e, le-ltb n n (omega arith), lt-ltb n (suc n) (omega arith), eq-eqb n n refl) (sym (and-all (has (getD items n 0) i)))
     go (no d) = rw (ne-eqb n j d, below d, and-none) (sym (or-none (ltb j n && has (getD items j 0) i)))
 
-pub found-all : (items : List ℕ) (i : ℕ) → foundTo items i 64 ≡ holders (state 0 items [] [] [] [] []) i
+pub found-all : (s : State) (i : ℕ) → foundTo (s .items) i 64 ≡ holders s i
 unfolding holders holds itemsOf
-found-all items i =
-    set-ext (foundTo items i 64) (those (λ c. has (getD items c 0) i)) (found-lt items i 64 (omega arith)) (those-lt (λ c. has (getD items c 0) i))
-    (λ j h. found-has items i 64 j ∙ rw (lt-ltb j 64 h) (sym (those-has (λ c. has (getD items c 0) i) j h)))
+found-all s i =
+    set-ext (foundTo (s .items) i 64) (those (λ c. has (getD (s .items) c 0) i)) (found-lt (s .items) i 64 (omega arith)) (those-lt (λ c. has (getD (s .items) c 0) i))
+    (λ j h. found-has (s .items) i 64 j ∙ rw (lt-ltb j 64 h) (sym (those-has (λ c. has (getD (s .items) c 0) i) j h)))
 
 -- ---- how many members: with one taken out, one fewer
 ones-more : (n k : ℕ) (f : ℕ → Bool) → ones (thoseFrom (suc n) k f) ≡ bit (f k) + ones (thoseFrom n (suc k) f)
@@ -229,7 +234,7 @@ module _ (s : State) (i : ℕ) where
     unfolding holdersRefusal firstThat
     range h = rw (le-leb 64 i h)
 
-    pub refused-range : 64 ≤ i → Answered s i before (Refused 5) before
+    pub refused-range : 64 ≤ i → AnswersHolders s i before (Refused 5) before
     unfolding replyOf holdersQuery replyBy HoldersSlice SliceBy
     refused-range h = record { answer = rw (range h); slice = rw (range h) refl }
 
@@ -242,7 +247,7 @@ module _ (s : State) (i : ℕ) where
       unfolding holdersRefusal firstThat
       short l = rw (lt-leb 64 i h, ← is-set, ← counted, lt-ltb (length before) n l)
 
-      pub refused-short : length before < n → Answered s i before (Refused 13) before
+      pub refused-short : length before < n → AnswersHolders s i before (Refused 13) before
       unfolding replyOf holdersQuery replyBy HoldersSlice SliceBy
       refused-short l = record { answer = rw (short l); slice = rw (short l) refl }
 
@@ -252,30 +257,6 @@ module _ (s : State) (i : ℕ) where
 
       pub holders-given : (now : List ℕ) → n ≤ length before
           → (length now ≡ length before) × Lists (take (count x) now) x × (drop (count x) now ≡ drop (count x) before)
-          → Answered s i before (Result n) now
+          → AnswersHolders s i before (Result n) now
       unfolding replyOf holdersQuery replyBy HoldersSlice SliceBy
       holders-given now l f = record { answer = rw (fitting l, ← is-set, counted); slice = rw (fitting l, ← is-set) f }
-
--- ---- the query for the holders goes by their set alone
-module _ (s t : State) (i : ℕ) (e : holders s i ≡ holders t i) where
-  refusal-by : (room : ℕ) → holdersRefusal s i room ≡ holdersRefusal t i room
-  unfolding holdersRefusal
-  refusal-by room = rw e
-
-  reply-by : (o : Option ℕ) → replyBy s i o ≡ replyBy t i o
-  unfolding replyBy
-  reply-by (some n) = refl
-  reply-by none = rw e
-
-  slice-by : (o : Option ℕ) (before now : List ℕ) → SliceBy s i o before now → SliceBy t i o before now
-  unfolding SliceBy
-  slice-by (some n) before now f = f
-  slice-by none before now f = rw e at f
-
-  pub answered-by : {before : List ℕ} {r : Reply} {now : List ℕ} → Answered s i before r now → Answered t i before r now
-  unfolding holdersQuery HoldersSlice
-  answered-by {before} {r} {now} a =
-      record {
-        answer = a .answer ∙ ap (replyBy s i) (refusal-by (length before)) ∙ reply-by (holdersRefusal t i (length before));
-        slice = slice-by (holdersRefusal t i (length before)) before now (rw (refusal-by (length before)) at (a .slice));
-      }

@@ -1,5 +1,6 @@
-pub mod Marks
-pub mod View
+pub mod Rows
+pub mod Plans
 pub mod Worked
 pub mod Replies
+pub mod View
 pub mod Calling

@@ -16,7 +16,7 @@ replyOf (Result x) = result x
 replyOf (Refused n) = refuse n
 
 -- the query for the holders of item i: the reply, and the slice by what it held before
-pub record Answered (s : State) (i : ℕ) (before : List ℕ) (r : Reply) (after : List ℕ) : Type 0 where
+pub record AnswersHolders (s : State) (i : ℕ) (before : List ℕ) (r : Reply) (after : List ℕ) : Type 0 where
   pub answer : replyOf r ≡ holdersQuery s i (length before)
   pub slice : HoldersSlice s i before after
 

@@ -1,13 +1,18 @@
-// The two queries (document 01, What a record gets), on lent parts of the tracker: the items of a container as a 64-bit set, and the holders
-// of an item, whose numbers go into a lent slice.
+// The two queries (document 01, What a record gets): the items of a container as a 64-bit set, and the holders of an item, whose numbers go
+// into a lent slice.
+use store::lookups::items;
+use store::numbers::Container;
+ghost use Prim.Native.Nat.{ℕ, _%_, _≤_};
 ghost use mathlib.Core.Path.{_≡_};
-ghost use mathlib.Core.List.{[]};
-ghost use Prim.Native.Nat.{_%_, _≤_};
+ghost use mathlib.Core.List.{List};
 ghost use lib.ListN.{length, take, drop};
 ghost use Rattle.sets.specs.Sets.{count};
+ghost use Rattle.flow.specs.Lists.{table};
+ghost use Rattle.flow.specs.Box.{itemCount, Rule};
 ghost use Rattle.flow.specs.Queries.{itemsQuery, holders, Lists};
+ghost use Rattle.store.specs.Maps.{view};
 ghost use Rattle.tracker.specs.View.{state};
-ghost use Rattle.tracker.specs.Replies.{replyOf, withHolder, Answered};
+ghost use Rattle.tracker.specs.Replies.{replyOf, withHolder, AnswersHolders};
 
 // The result, or a refusal's number.
 pub enum Reply {
@@ -16,21 +21,20 @@ pub enum Reply {
 }
 
 // The items of container c.
-pub fn items_in(items: &[u64; 64], c: u8) -> Reply
-    ensures { λ r. ⌜ replyOf r ≡ itemsQuery (state 0 (now (items .entry)) [] [] [] [] []) c ⌝ }
+pub fn items_in(words: &[u64; 97], c: u8) -> Reply
+    ensures { λ r. ⌜ ((d n : List ℕ) (rules : List Rule) → replyOf r ≡ itemsQuery (state (view (now (words .entry)) d n) rules) c) ⌝ }
 {
     if c < 64 {
-        Reply::Result(items[c as usize])
-    } else {
-        Reply::Refused(5)
+        return Reply::Result(items(words, Container(c)));
     }
+    Reply::Refused(5)
 }
 
-// x, with container c where the items of c have item i.
-fn with_holder(x: u64, items: u64, i: u8, c: u8) -> u64
-    ensures { λ r. ⌜ r ≡ withHolder x items (i % 64) (c % 64) ⌝ }
+// x, with container c where its items have item i.
+fn with_holder(x: u64, held: u64, i: u8, c: u8) -> u64
+    ensures { λ r. ⌜ r ≡ withHolder x held (i % 64) (c % 64) ⌝ }
 {
-    if sets::member(items, i) {
+    if sets::member(held, i) {
         sets::with(x, c)
     } else {
         x
@@ -38,12 +42,12 @@ fn with_holder(x: u64, items: u64, i: u8, c: u8) -> u64
 }
 
 // The containers that hold item i.
-fn holder_set(items: &[u64; 64], i: u8) -> u64
-    ensures { λ r. ⌜ r ≡ holders (state 0 (now (items .entry)) [] [] [] [] []) (i % 64) ⌝ }
+fn holder_set(words: &[u64; 97], i: u8) -> u64
+    ensures { λ r. ⌜ ((d n : List ℕ) (rules : List Rule) → r ≡ holders (state (view (now (words .entry)) d n) rules) (i % 64)) ⌝ }
 {
     let mut x = 0;
     for c in 0u8..64 {
-        let held = items[c as usize];
+        let held = items(words, Container(c));
         x = with_holder(x, held, i, c);
     }
     x
@@ -65,13 +69,13 @@ fn fill(x: u64, out: &mut [u16])
 }
 
 // The containers that hold item i, at the front of `out`, and how many they are. A refusal leaves `out` as it was.
-pub fn holders_in(items: &[u64; 64], i: u8, out: &mut [u16]) -> Reply
-    ensures { λ r. ⌜ Answered (state 0 (now (items .entry)) [] [] [] [] []) i (now (out .entry)) r (now (out .exit)) ⌝ }
+pub fn holders_in(words: &[u64; 97], i: u8, out: &mut [u16]) -> Reply
+    ensures { λ r. ⌜ ((d n : List ℕ) (rules : List Rule) → AnswersHolders (state (view (now (words .entry)) d n) rules) i (now (out .entry)) r (now (out .exit))) ⌝ }
 {
     if 64 <= i {
         return Reply::Refused(5);
     }
-    let x = holder_set(items, i);
+    let x = holder_set(words, i);
     let n = sets::count(x) as u64;
     if (out.len() as u64) < n {
         return Reply::Refused(13);

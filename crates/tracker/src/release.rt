@@ -1,120 +1,83 @@
 // What is no longer in use is emptied, in the call that ends its use (document 01, The box).
-use crate::lookups::in_use;
-use crate::lookups::used_set;
-use crate::numbers::Container;
+use crate::Call;
+use store::blocks::FILES;
+use store::blocks::block_files;
+use store::blocks::file_set;
+use store::cells::empty_items;
+use store::lookups::descriptor;
+use store::lookups::fed;
+use store::lookups::feeders;
+use store::lookups::in_use;
+use store::lookups::name;
+use store::numbers::Container;
+use store::numbers::Descriptor;
+use store::numbers::Name;
+use store::numbers::Process;
+ghost use Prim.Native.Nat.{ℕ, _%_, _<_};
 ghost use mathlib.Core.Path.{_≡_};
-ghost use Prim.Native.Nat.{_%_};
-ghost use lib.ListN.{length};
-ghost use Rattle.tracker.specs.Marks.{fileSet, releaseTurn, releasedAt, released};
-ghost use Rattle.tracker.specs.View.{tables};
+ghost use mathlib.Core.List.{List};
+ghost use Rattle.flow.specs.Records.{kindOf};
+ghost use Rattle.store.specs.Maps.{view, withItems, cleared};
+ghost use Rattle.tracker.specs.Rows.{Passes};
+ghost use Rattle.tracker.specs.Plans.{heldBy, lostAt, unusedSet, goneOf};
 
-// What the type says of a lent array, for the proofs: nothing is done.
-fn sized(items: [u64; 64])
-    ensures { λ _. ⌜ length items ≡ 64 ⌝ }
-{}
-
-// Empties container e if it is a file or pipe that is not in use.
-pub fn release_one(
-    live: u64,
-    items: &mut [u64; 64],
-    feeders: &[u64; 16],
-    fed: &[u64; 16],
-    descriptors: &[u8; 512],
-    names: &[u8; 128],
-    e: u8,
-)
-    ensures { λ _. ⌜ now (items .exit) ≡ released (now (items .entry)) (fileSet e) (tables live (now (feeders .entry)) (now (fed .entry)) (now (descriptors .entry)) (now (names .entry))) ⌝ }
+// The files and pipes that process p leads to or maps.
+fn held_by(words: &[u64; 97], descriptors: &[u8; 512], p: u8) -> u64
+    requires { ⌜ p < 16 ⌝ }
+    ensures { λ r. ⌜ ((n : List ℕ) → r ≡ heldBy (view (now (words .entry)) (now (descriptors .entry)) n .tables) p) ⌝ }
 {
-    sized(*items);
-    if (24 <= e) & (e < 64) {
-        if !in_use(live, feeders, fed, descriptors, names, Container(e)) {
-            items[(e % 64) as usize] = 0;
-        }
+    block_files(descriptors, Process(p))
+        | ((feeders(words, Process(p)) | fed(words, Process(p))) & FILES)
+}
+
+// The containers that a call that is not refused may end the use of.
+pub fn lost_by(words: &[u64; 97], descriptors: &[u8; 512], names: &[u8; 128], q: Call) -> u64
+    requires { ⌜ Passes (now words) (now descriptors) (now names) q ⌝ }
+    ensures { λ r. ⌜ r ≡ lostAt (view (now (words .entry)) (now (descriptors .entry)) (now (names .entry)) .tables) q (kindOf (q .kind)) ⌝ }
+{
+    let kind = q.kind;
+    let p = q.process;
+    let a = q.a;
+    let b = q.b;
+    match kind {
+        7 => file_set(descriptor(descriptors, Process(p), Descriptor(a))),
+        13 => file_set(a),
+        14 => file_set(name(names, Name(a))),
+        15 => file_set(name(names, Name(b))),
+        17 => held_by(words, descriptors, a),
+        18 => sets::with(held_by(words, descriptors, p), 8 + p),
+        _ => 0,
     }
 }
 
-// Empties container v if it is not in use.
-fn release_at(
-    live: u64,
-    items: &mut [u64; 64],
-    feeders: &[u64; 16],
-    fed: &[u64; 16],
-    descriptors: &[u8; 512],
-    names: &[u8; 128],
-    v: u8,
-)
-    ensures { λ _. ⌜ now (items .exit) ≡ releasedAt (now (items .entry)) (v % 64) (tables live (now (feeders .entry)) (now (fed .entry)) (now (descriptors .entry)) (now (names .entry))) ⌝ }
+// The set of v alone, where v is not in use.
+fn unused_set(words: &[u64; 97], descriptors: &[u8; 512], names: &[u8; 128], v: u8) -> u64
+    ensures { λ r. ⌜ r ≡ unusedSet (view (now (words .entry)) (now (descriptors .entry)) (now (names .entry)) .tables) v (v % 64) ⌝ }
 {
-    if !in_use(live, feeders, fed, descriptors, names, Container(v)) {
-        items[(v % 64) as usize] = 0;
+    if in_use(words, descriptors, names, Container(v)) {
+        return 0;
     }
+    sets::with(0, v)
 }
 
-// Empties each container of the set lost that is not in use, asking for one after the other.
-fn release_each(
-    live: u64,
-    items: &mut [u64; 64],
-    feeders: &[u64; 16],
-    fed: &[u64; 16],
-    descriptors: &[u8; 512],
-    names: &[u8; 128],
-    lost: u64,
-)
-    ensures { λ _. ⌜ now (items .exit) ≡ released (now (items .entry)) lost (tables live (now (feeders .entry)) (now (fed .entry)) (now (descriptors .entry)) (now (names .entry))) ⌝ }
+// Of the set lost, those that are not in use.
+fn gone(words: &[u64; 97], descriptors: &[u8; 512], names: &[u8; 128], lost: u64) -> u64
+    ensures { λ r. ⌜ r ≡ goneOf (view (now (words .entry)) (now (descriptors .entry)) (now (names .entry)) .tables) lost ⌝ }
 {
-    sized(*items);
+    let mut found = 0u64;
     let mut left = lost;
     while left != 0 {
         let v = sets::lowest(left) as u8;
-        release_at(live, items, feeders, fed, descriptors, names, v);
+        found = found | unused_set(words, descriptors, names, v);
         left = sets::without(left, v);
     }
-}
-
-// Empties container v if it is in the set lost and not in keep.
-fn release_turn(items: &mut [u64; 64], lost: u64, keep: u64, v: u8)
-    ensures { λ _. ⌜ now (items .exit) ≡ releaseTurn lost keep v (now (items .entry)) ⌝ }
-{
-    if sets::member(lost, v) & !sets::member(keep, v) {
-        items[(v % 64) as usize] = 0;
-    }
-}
-
-// Empties each container of the set lost that is not in use, where all that is in use is found first.
-fn release_found(
-    live: u64,
-    items: &mut [u64; 64],
-    feeders: &[u64; 16],
-    fed: &[u64; 16],
-    descriptors: &[u8; 512],
-    names: &[u8; 128],
-    lost: u64,
-)
-    ensures { λ _. ⌜ now (items .exit) ≡ released (now (items .entry)) lost (tables live (now (feeders .entry)) (now (fed .entry)) (now (descriptors .entry)) (now (names .entry))) ⌝ }
-{
-    sized(*items);
-    let keep = used_set(live, feeders, fed, descriptors, names);
-    for v in 0u8..64 {
-        release_turn(items, lost, keep, v);
-    }
+    found
 }
 
 // Empties each container of the set lost that is not in use.
-pub fn release_all(
-    live: u64,
-    items: &mut [u64; 64],
-    feeders: &[u64; 16],
-    fed: &[u64; 16],
-    descriptors: &[u8; 512],
-    names: &[u8; 128],
-    lost: u64,
-)
-    ensures { λ _. ⌜ now (items .exit) ≡ released (now (items .entry)) lost (tables live (now (feeders .entry)) (now (fed .entry)) (now (descriptors .entry)) (now (names .entry))) ⌝ }
+pub fn release(words: &mut [u64; 97], descriptors: &[u8; 512], names: &[u8; 128], lost: u64)
+    ensures { λ _. ⌜ (let m = view (now (words .entry)) (now (descriptors .entry)) (now (names .entry)) in view (now (words .exit)) (now (descriptors .entry)) (now (names .entry)) ≡ withItems m (cleared (m .items) (goneOf (m .tables) lost))) ⌝ }
 {
-    // To find all that is in use takes as long as to ask for some twenty containers.
-    if sets::count(lost) < 20 {
-        release_each(live, items, feeders, fed, descriptors, names, lost);
-        return;
-    }
-    release_found(live, items, feeders, fed, descriptors, names, lost);
+    let x = gone(words, descriptors, names, lost);
+    empty_items(words, x);
 }

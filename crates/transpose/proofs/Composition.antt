@@ -8,7 +8,7 @@ use lib.ListN.{getD}
 use borrow.Author.Tests.{ltb-true, eqb-true, not-false}
 use Rattle.sets.specs.Sets.{has, those}
 use Rattle.sets.proofs.Members.{those-has, those-lt, set-ext}
-use Rattle.flow.specs.Tables.{someBelow}
+use Rattle.flow.specs.Lists.{someBelow}
 use Rattle.flow.proofs.Bools.{or-false-l, or-false-r, and-l, and-r}
 use Rattle.flow.proofs.TableLaws.{is-table, none-of}
 use Rattle.transpose.specs.Transposed.{transposed}

@@ -5,7 +5,7 @@ use mathlib.Core.List.{List}
 use lib.Dec.{eqb, ltb}
 use lib.ListN.{getD}
 use Rattle.sets.specs.Sets.{has, those}
-use Rattle.flow.specs.Tables.{table, someBelow}
+use Rattle.flow.specs.Lists.{table, someBelow}
 
 -- the number b has the bit d
 unfoldable pub upper : ℕ → ℕ → Bool

@@ -3,7 +3,7 @@ use Prim.Native.Nat.{ℕ}
 use mathlib.Core.List.{List}
 use lib.ListN.{getD}
 use Rattle.sets.specs.Sets.{has, those}
-use Rattle.flow.specs.Tables.{table}
+use Rattle.flow.specs.Lists.{table}
 
 -- rows and columns exchanged: row i has member r exactly where row r has member i
 unfoldable pub transposed : List ℕ → List ℕ

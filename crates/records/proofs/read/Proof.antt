@@ -1,7 +1,7 @@
 -- `read` reads by the tag what none of the three tests refuses.
 use mathlib.Core.Path.{_≡_, sym, ap, _∙_}
 use mathlib.Core.Option.{none}
-use Rattle.flow.specs.Tables.{firstThat}
+use Rattle.flow.specs.Lists.{firstThat}
 use Rattle.flow.specs.Records.{tagOf}
 use Rattle.records.specs.Reading.{frameTests, readingOf, refusalOf}
 use Rattle.records.proofs.Frames.{unread, call-read, forbid-read, separate-read, confine-read}

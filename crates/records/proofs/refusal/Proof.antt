@@ -3,7 +3,7 @@ use mathlib.Core.Path.{_≡_, refl, sym, ap, _∙_}
 use mathlib.Core.Bool.{true, false, not}
 use lib.Dec.{eqb}
 use borrow.Author.Tests.{not-true, not-false, eq-eqb, ne-eqb}
-use Rattle.flow.specs.Tables.{firstThat}
+use Rattle.flow.specs.Lists.{firstThat}
 use Rattle.flow.specs.Records.{tagOf, cutShort, knownTag, wrongLength}
 use Rattle.records.specs.Reading.{refusalOf}
 use Rattle.records.proofs.Frames.{framed, tested}

@@ -1,6 +1,6 @@
 -- `set_of` is the number of eight bytes, of which it makes two halves.
 use native.Mathlib.Omega.{arith}
-use Rattle.flow.specs.Tables.{tableFrom}
+use Rattle.flow.specs.Lists.{tableFrom}
 use Rattle.flow.specs.Records.{numberFrom}
 use borrow.Author.Needs.{needs}
 use Rattle.records.proofs.set_of.Statement.{statement}

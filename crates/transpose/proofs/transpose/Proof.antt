@@ -2,7 +2,7 @@
 use mathlib.Core.Path.{refl, ap, _∙_}
 use borrow.Author.Needs.{needs}
 use Rattle.sets.specs.Sets.{has}
-use Rattle.flow.specs.Tables.{someBelow}
+use Rattle.flow.specs.Lists.{someBelow}
 use Rattle.transpose.specs.Rounds.{upper, unfit, shuffled}
 use Rattle.transpose.proofs.Composition.{rounds, distances, exchanged}
 use Rattle.transpose.proofs.transpose.Statement.{statement}

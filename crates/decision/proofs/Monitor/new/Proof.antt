@@ -1,5 +1,5 @@
 -- `Monitor::new` has a fresh tracker and no rules.
-use Rattle.flow.specs.Tables.{tableFrom, table}
+use Rattle.flow.specs.Lists.{tableFrom, table}
 use Rattle.decision.specs.Judging.{countOf}
 use Rattle.decision.specs.View.{rulesOf, view}
 use borrow.Author.Needs.{needs}

@@ -1,6 +1,6 @@
 -- `renew` makes a fresh tracker and no rules.
 use mathlib.Core.Path.{ap, _∙_}
-use Rattle.flow.specs.Tables.{tableFrom, table}
+use Rattle.flow.specs.Lists.{tableFrom, table}
 use Rattle.tracker.specs.declared.Tracker.{Tracker}
 use Rattle.decision.specs.Judging.{countOf}
 use mathlib.Core.List.{[]}

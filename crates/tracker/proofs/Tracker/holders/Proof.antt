@@ -1,12 +1,5 @@
--- `Tracker::holders` answers the query for the holders in the tracker's state.
-use mathlib.Core.Path.{refl}
-use mathlib.Core.List.{[]}
+-- `Tracker::holders` answers the query on the tracker's words.
 use borrow.Author.Needs.{needs}
-use Rattle.flow.specs.Box.{itemsOf}
-use Rattle.flow.specs.Rules.{holds}
-use Rattle.flow.specs.Queries.{holders}
-use Rattle.tracker.specs.View.{state, view}
-use Rattle.tracker.proofs.Holders.{answered-by}
 use Rattle.tracker.proofs.Tracker.holders.Statement.{statement}
 use Rattle.tracker.proofs.Tracker.holders.Tie as tie
 
@@ -17,10 +10,10 @@ same-length : tie.Need-same-length
 same-length c = search needs
 
 returns : tie.Need-returns
-unfolding view holders holds itemsOf
 returns c =
-    λ rules. let a = c .before .before .before .before .before .before .before .args in
-    answered-by (state 0 (a .self .items) [] [] [] [] []) (view (a .self) rules) (a .i) refl (c .before .before .holders-in .ensures)
+    let c2 = c .before .before in
+    λ rules. c2 .holders-in .ensures _ _ rules
+
 
 pub holders-spec : {M : Type 1} → statement M
 holders-spec = tie.close (tie.spec holders-in-requires same-length returns)

@@ -1,8 +1,5 @@
--- `Tracker::items` answers the query on the items of the tracker's state.
+-- `Tracker::items` answers the query on the tracker's words.
 use borrow.Author.Needs.{needs}
-use Rattle.flow.specs.Box.{itemsOf}
-use Rattle.flow.specs.Queries.{itemsQuery}
-use Rattle.tracker.specs.View.{view}
 use Rattle.tracker.proofs.Tracker.items.Statement.{statement}
 use Rattle.tracker.proofs.Tracker.items.Tie as tie
 
@@ -10,8 +7,8 @@ items-in-requires : tie.Need-items-in-requires
 items-in-requires c κs = search needs
 
 returns : tie.Need-returns
-unfolding itemsQuery itemsOf view
-returns c = λ rules. c .items-in .ensures
+returns c = λ rules. c .items-in .ensures _ _ rules
+
 
 pub items-spec : {M : Type 1} → statement M
 items-spec = tie.close (tie.spec items-in-requires returns)

@@ -1,13 +1,15 @@
 -- `Tracker::new` makes the fresh state.
 use mathlib.Core.Path.{refl}
-use Rattle.flow.specs.Box.{fresh}
-use Rattle.tracker.specs.View.{view}
+use Rattle.flow.specs.Box.{noTables, fresh}
+use Rattle.store.specs.Maps.{part, view}
 use Rattle.tracker.proofs.Tracker.new.Statement.{statement}
 use Rattle.tracker.proofs.Tracker.new.Tie as tie
+use borrow.Author.Needs.{needs}
 
 returns : tie.Need-returns
-unfolding view fresh
+unfolding view part fresh noTables
 returns c = refl
+
 
 pub new-spec : {M : Type 1} → statement M
 new-spec = tie.close (tie.spec returns)

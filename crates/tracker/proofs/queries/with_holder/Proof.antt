@@ -15,12 +15,12 @@ with-requires c κs = search needs
 returns : tie.Need-returns
 returns c =
     let a = c .before .before .before .args in
-    c .with .ensures ∙ sym (took (a .x) (a .items) (a .i % 64) (a .c % 64) (sym (c .before .before .member .ensures) ∙ c .before .if1 .taken))
+    c .with .ensures ∙ sym (took (a .x) (a .held) (a .i % 64) (a .c % 64) (sym (c .before .before .member .ensures) ∙ c .before .if1 .taken))
 
 returns-2 : tie.Need-returns-2
 returns-2 c =
     let a = c .before .before .args in
-    sym (passed (a .x) (a .items) (a .i % 64) (a .c % 64) (sym (c .before .member .ensures) ∙ c .if1 .left))
+    sym (passed (a .x) (a .held) (a .i % 64) (a .c % 64) (sym (c .before .member .ensures) ∙ c .if1 .left))
 
 pub with-holder-spec : {M : Type 1} → statement M
 with-holder-spec = tie.close (tie.spec member-requires with-requires returns returns-2)

@@ -1,0 +1,9 @@
+pub mod Parts
+pub mod Use
+pub mod BlockLaws
+pub mod Writes
+pub mod Spreading
+pub mod Searching
+pub mod Worklist
+pub mod Words
+pub mod Files

@@ -1,0 +1,33 @@
+-- A part of the words, and an entry of a table.
+use Prim.Native.Nat.{ℕ, zero, suc, _+_, _≤_, _<_}
+use native.Mathlib.Omega.{arith}
+use native.Mathlib.Nat.{not-suc-le-zero, le-of-suc-le-suc}
+use mathlib.Core.Path.{_≡_, refl, sym, _∙_}
+use mathlib.Core.List.{List, [], _∷_}
+use lib.ListN.{length, getD, take, drop, length-take, length-drop}
+use lib.Seq.{getD-take, getD-drop}
+use Rattle.store.specs.Maps.{part}
+
+-- an element does not depend on the default
+pub getD-any : (l : List ℕ) (i d e : ℕ) → i < length l → getD l i d ≡ getD l i e
+getD-any [] i d e h = absurd (not-suc-le-zero h)
+getD-any (x ∷ l) zero d e h = refl
+getD-any (x ∷ l) (suc i) d e h = getD-any l i d e (le-of-suc-le-suc h)
+
+pub part-at : (a n : ℕ) (w : List ℕ) (i : ℕ) → i < n → getD w (a + i) 0 ≡ getD (part a n w) i 0
+unfolding part
+part-at a n w i h = sym (getD-take n (drop a w) i 0 h ∙ getD-drop a w i 0)
+
+take-past : (n : ℕ) (l : List ℕ) (i : ℕ) → n ≤ i → 0 ≡ getD (take n l) i 0
+take-past zero l i h = refl
+take-past (suc n) [] i h = refl
+take-past (suc n) (x ∷ l) zero h = absurd (not-suc-le-zero h)
+take-past (suc n) (x ∷ l) (suc i) h = take-past n l i (le-of-suc-le-suc h)
+
+pub part-past : (a n : ℕ) (w : List ℕ) (i : ℕ) → n ≤ i → 0 ≡ getD (part a n w) i 0
+unfolding part
+part-past a n w = take-past n (drop a w)
+
+pub part-length : (a n : ℕ) (w : List ℕ) → a + n ≤ length w → length (part a n w) ≡ n
+unfolding part
+part-length a n w h = simp (length-take, length-drop) (omega arith)

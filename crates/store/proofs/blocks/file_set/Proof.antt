@@ -1,0 +1,23 @@
+-- `file_set` makes the set of a file or pipe.
+use native.Mathlib.Nat.{mod-eq-of-lt}
+use mathlib.Core.Path.{sym, ap, _∙_}
+use Rattle.sets.specs.Sets.{_∪_, only}
+use Rattle.flow.specs.Box.{isFile}
+use Rattle.store.proofs.Files.{fileSet-file, fileSet-none, file-range}
+use borrow.Author.Needs.{needs}
+use Rattle.store.proofs.blocks.file_set.Statement.{statement}
+use Rattle.store.proofs.blocks.file_set.Tie as tie
+
+with-requires : tie.Need-with-requires
+with-requires c κs = search needs
+
+returns : tie.Need-returns
+unfolding _∪_ isFile
+returns c = c .with .ensures ∙ ap only (mod-eq-of-lt (file-range _ (c .before .if1 .taken) .1)) ∙ sym (fileSet-file _ (c .before .if1 .taken))
+
+returns-2 : tie.Need-returns-2
+unfolding isFile
+returns-2 c = sym (fileSet-none _ (c .if1 .left))
+
+pub file-set-spec : {M : Type 1} → statement M
+file-set-spec = tie.close (tie.spec with-requires returns returns-2)

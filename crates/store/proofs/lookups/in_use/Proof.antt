@@ -1,0 +1,80 @@
+-- `in_use` is the test of document 01, by the kinds of container.
+use mathlib.Core.Path.{sym, _∙_}
+use Rattle.flow.specs.Box.{Tables}
+use Rattle.store.specs.Maps.{view}
+use Rattle.store.proofs.Use.{used-device, used-live, used-named, used-described, used-other, mapped-has}
+use Rattle.store.proofs.Parts.{part-length}
+use borrow.Author.Needs.{needs}
+use Rattle.store.proofs.lookups.in_use.Statement.{statement}
+use Rattle.store.proofs.lookups.in_use.Tie as tie
+
+returns : tie.Need-returns
+returns c = sym (used-device _ _ (c .if1 .taken))
+
+is-live-requires : tie.Need-is-live-requires
+is-live-requires c κs = search needs
+
+returns-2 : tie.Need-returns-2
+unfolding view
+returns-2 c =
+    let c2 = c .before .before in
+    let c4 = c2 .before .before in
+    c .is-live .ensures ∙ sym (used-live _ _ (c4 .if1 .left) (c2 .if2 .taken))
+
+stands-requires : tie.Need-stands-requires
+stands-requires c κs = search needs
+
+returns-3 : tie.Need-returns-3
+unfolding view
+returns-3 c =
+    let c1 = c .before in
+    let c3 = c1 .before .before in
+    sym (used-named _ _ (c3 .if2 .left) (sym (c1 .stands .ensures) ∙ c .if3 .taken))
+
+stands-requires-2 : tie.Need-stands-requires-2
+stands-requires-2 c κs = search needs
+
+returns-4 : tie.Need-returns-4
+unfolding view
+returns-4 c =
+    let c1 = c .before in
+    let c6 = c1 .before .before .before .before .before in
+    sym (used-described _ _ (c6 .if2 .left) (sym (c1 .stands2 .ensures) ∙ c .if4 .taken))
+
+mapped-requires : tie.Need-mapped-requires
+mapped-requires c κs = search needs
+
+holds-requires : tie.Need-holds-requires
+holds-requires c κs = search needs
+
+returns-5 : tie.Need-returns-5
+unfolding view
+returns-5 c =
+    let c1 = c .before in
+    let c3 = c1 .before .before in
+    let c4 = c3 .before in
+    let c6 = c4 .before .before in
+    let c7 = c6 .before in
+    let c9 = c7 .before .before in
+    let c13 = c9 .before .before .before .before in
+    let q = c13 .args in
+    let t : Tables = view (q .words .now) (q .descriptors .now) (q .names .now) .tables in
+    c .holds .ensures
+    ∙ rw (c1 .mapped .ensures)
+    (mapped-has t _ (part-length 65 16 _ (search needs)) (part-length 81 16 _ (search needs))
+    ∙ sym (used-other t _ (c9 .if2 .left) (sym (c7 .stands .ensures) ∙ c6 .if3 .left) (sym (c4 .stands2 .ensures) ∙ c3 .if4 .left)))
+
+pub in-use-spec : {M : Type 1} → statement M
+in-use-spec =
+    tie.close
+    (tie.spec
+    returns
+    is-live-requires
+    returns-2
+    stands-requires
+    returns-3
+    stands-requires-2
+    returns-4
+    mapped-requires
+    holds-requires
+    returns-5)

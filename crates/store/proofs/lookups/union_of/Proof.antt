@@ -1,0 +1,43 @@
+-- `union_of` joins the sets in order: before number i it has joined those before it.
+use Prim.Native.Nat.{_-_, _≤_}
+use mathlib.Core.Path.{_≡_, refl, sym, ap, _∙_}
+use lib.ListN.{length, take}
+use lib.Seq.{take-all}
+use borrow.Author.Needs.{needs}
+use Rattle.sets.specs.Sets.{_∪_}
+use Rattle.store.specs.Maps.{unionOf}
+use Rattle.store.proofs.Use.{unionOf-more}
+use Rattle.store.proofs.lookups.union_of.Statement.{statement}
+use Rattle.store.proofs.lookups.union_of.Tie as tie
+
+abbrev Inv-loop : tie.InvT-loop
+Inv-loop rows x₀ i₀ i-end x i = (i ≤ length rows) × (x ≡ unionOf (take i rows))
+
+abbrev μ-loop : tie.MeasureT-loop
+μ-loop rows x₀ i₀ i-end x i = length rows - i
+
+loop-holds : tie.Need-loop-holds Inv-loop μ-loop
+unfolding unionOf
+loop-holds c = (search needs, refl)
+
+mul-x : tie.Need-mul-x Inv-loop μ-loop
+mul-x c = search needs
+
+shared-slice-read-x : tie.Need-shared-slice-read-x Inv-loop μ-loop
+shared-slice-read-x c = search needs
+
+add-i : tie.Need-add-i Inv-loop μ-loop
+add-i c = search needs
+
+loop-less : tie.Need-loop-less Inv-loop μ-loop
+loop-less c = search needs
+
+loop-again : tie.Need-loop-again Inv-loop μ-loop
+unfolding _∪_
+loop-again c = (search needs, rw (c .before .before .loop .inv .1) (sym (unionOf-more _ _ (c .before .loop-test .taken))))
+
+returns : tie.Need-returns Inv-loop μ-loop
+returns c = c .before .loop .inv .1 ∙ ap unionOf (take-all _ _ (c .loop-test .left))
+
+pub union-of-spec : {M : Type 1} → statement M
+union-of-spec = tie.close (tie.spec Inv-loop μ-loop loop-holds mul-x shared-slice-read-x add-i loop-less loop-again returns)

@@ -1,0 +1,73 @@
+-- How three lent arrays stand for the maps of document 01, The box: the storage map, the alias map and the naming maps.
+use Prim.Native.Nat.{ℕ}
+use mathlib.Core.Bool.{true, false}
+use mathlib.Core.List.{List, [], _∷_}
+use lib.ListN.{getD, take, drop}
+use Rattle.sets.specs.Sets.{has, only, _∪_}
+use Rattle.flow.specs.Lists.{table}
+use Rattle.flow.specs.Box.{containerCount, processCount, isFile, Tables}
+use Rattle.flow.specs.Links.{given}
+use Rattle.flow.specs.Calls.{Change, itemsAfter}
+use Rattle.store.specs.declared.Plan.{Plan}
+
+-- a state but for its
+pub record Maps : Type 0 where
+  pub tables : Tables
+  pub items : List ℕ
+
+abbrev pub withTables : Maps → Tables → Maps
+withTables m t = record { tables = t; items = m .items }
+
+abbrev pub withItems : Maps → List ℕ → Maps
+withItems m l = record { tables = m .tables; items = l }
+
+-- the maps after a change
+abbrev pub changed : Maps → Change → Maps
+changed m x = record { tables = x .tables; items = itemsAfter (m .tables) (m .items) x }
+
+-- ---- the layout
+-- n elements from a on
+unfoldable pub part : ℕ → ℕ → List ℕ → List ℕ
+part a n l = take n (drop a l)
+
+-- the words: the set of live processes at 0, the items from 1 on, the feeders from 65 on, the fed from 81 on
+unfoldable pub view : List ℕ → List ℕ → List ℕ → Maps
+view words descriptors names =
+    record {
+      tables =
+          record {
+            live = getD words 0 0;
+            feeders = part 65 processCount words;
+            fed = part 81 processCount words;
+            descriptors = descriptors;
+            names = names;
+          };
+      items = part 1 containerCount words;
+    }
+
+-- ---- sets that the code works with
+-- the members of all sets of a list
+unfoldable pub unionOf : List ℕ → ℕ
+unionOf [] = 0
+unionOf (x ∷ l) = x ∪ unionOf l
+
+-- the items with those of every container of a set cleared
+unfoldable pub cleared : List ℕ → ℕ → List ℕ
+cleared items x = table containerCount (λ c. elim (has x c) [ true ↦ 0 | false ↦ getD items c 0 ])
+
+-- the items once a plan is made
+unfoldable pub itemsBy : List ℕ → Plan → List ℕ
+itemsBy items plan = given (given (cleared items (plan .empty)) (plan .to) (plan .given)) (plan .to2) (plan .given2)
+
+-- all files and pipes: the numbers 24 to 63
+abbrev pub files : ℕ
+files = 0xFFFFFFFFFF000000
+
+-- the set of e alone where e is a file or pipe, else the empty set
+unfoldable pub fileSet : ℕ → ℕ
+fileSet e = elim (isFile e) [ true ↦ only e | false ↦ 0 ]
+
+-- the files and pipes that stand in a list of entries
+unfoldable pub filesIn : List ℕ → ℕ
+filesIn [] = 0
+filesIn (e ∷ l) = fileSet e ∪ filesIn l

@@ -1,0 +1,67 @@
+// The descriptors of a process: 32 in a row.
+use crate::lookups::CLOSED;
+use crate::numbers::Process;
+ghost use Prim.Native.Nat.{_%_, _<_};
+ghost use mathlib.Core.Path.{_≡_};
+ghost use lib.ListN.{replicate};
+ghost use Rattle.flow.specs.Box.{descriptorCount, closed};
+ghost use Rattle.flow.specs.Calls.{putBlock, block};
+ghost use Rattle.store.specs.Maps.{fileSet, filesIn};
+
+// The set of all files and pipes, 24 to 63.
+pub const FILES: u64 = 0xFFFF_FFFF_FF00_0000;
+
+// Closes all of a process's descriptors.
+pub fn close_block(descriptors: &mut [u8; 512], p: Process)
+    ensures { λ _. ⌜ now (descriptors .exit) ≡ putBlock (now (descriptors .entry)) (p .0 % 16) (replicate descriptorCount closed) ⌝ }
+{
+    let entries: &mut [u8] = descriptors;
+    let at = 32 * (p.0 % 16) as usize;
+    for d in 0usize..32 {
+        entries[at + d] = CLOSED;
+    }
+}
+
+// Makes the descriptors of one process those of another.
+pub fn copy_block(descriptors: &mut [u8; 512], from: Process, to: Process)
+    ensures { λ _. ⌜ now (descriptors .exit) ≡ putBlock (now (descriptors .entry)) (to .0 % 16) (block (now (descriptors .entry)) (from .0 % 16)) ⌝ }
+{
+    let entries: &mut [u8] = descriptors;
+    let source = 32 * (from.0 % 16) as usize;
+    let at = 32 * (to.0 % 16) as usize;
+    for d in 0usize..32 {
+        let e = entries[source + d];
+        entries[at + d] = e;
+    }
+}
+
+// The set of e alone where e is a file or pipe.
+pub fn file_set(e: u8) -> u64
+    ensures { λ r. ⌜ r ≡ fileSet e ⌝ }
+{
+    if (24 <= e) & (e < 64) {
+        return sets::with(0, e);
+    }
+    0
+}
+
+// The files and pipes that stand in a table.
+fn files_in(table: &[u8]) -> u64
+    ensures { λ r. ⌜ r ≡ filesIn (now (table .entry)) ⌝ }
+{
+    let mut x = 0u64;
+    for i in 0..table.len() {
+        x = x | file_set(table[i]);
+    }
+    x
+}
+
+// The files and pipes that the descriptors of process p lead to.
+pub fn block_files(descriptors: &[u8; 512], p: Process) -> u64
+    requires { ⌜ p .0 < 16 ⌝ }
+    ensures { λ r. ⌜ r ≡ filesIn (block (now (descriptors .entry)) (p .0)) ⌝ }
+{
+    let all: &[u8] = descriptors;
+    let at = 32 * (p.0 as usize);
+    files_in(&all[at..at + 32])
+}

@@ -1,0 +1,92 @@
+// Stores: of the live processes, of one process's links, of one entry, and of items.
+use crate::Plan;
+use crate::numbers::Descriptor;
+use crate::numbers::Name;
+use crate::numbers::Process;
+use crate::spread::empty;
+use crate::spread::give;
+ghost use Prim.Native.Nat.{ℕ, _<_};
+ghost use mathlib.Core.Path.{_≡_};
+ghost use mathlib.Core.List.{List};
+ghost use lib.ListN.{set, length};
+ghost use Rattle.flow.specs.Box.{slot};
+ghost use Rattle.flow.specs.Calls.{withLive, withLinks};
+ghost use Rattle.store.specs.Maps.{view, withTables, withItems, cleared, itemsBy};
+
+// As a slice the words have their length, which the proofs use. Nothing is done.
+fn size(words: &[u64]) {}
+
+pub fn set_live(words: &mut [u64; 97], x: u64)
+    ensures { λ _. ⌜ ((d n : List ℕ) → let m = view (now (words .entry)) d n in view (now (words .exit)) d n ≡ withTables m (withLive (m .tables) x)) ⌝ }
+{
+    size(words);
+    words[0] = x;
+}
+
+// The containers that feed process p, and those that it feeds.
+pub fn set_links(words: &mut [u64; 97], p: Process, x: u64, y: u64)
+    requires { ⌜ p .0 < 16 ⌝ }
+    ensures { λ _. ⌜ ((d n : List ℕ) → let m = view (now (words .entry)) d n in view (now (words .exit)) d n ≡ withTables m (withLinks (m .tables) (p .0) x y)) ⌝ }
+{
+    let i = p.0 as usize;
+    words[65 + i] = x;
+    words[81 + i] = y;
+}
+
+fn set_entry(table: &mut [u8], i: usize, e: u8)
+    ensures { λ _. ⌜ now (table .exit) ≡ set (now (table .entry)) i e ⌝ }
+{
+    if i < table.len() {
+        table[i] = e;
+    }
+}
+
+pub fn set_descriptor(descriptors: &mut [u8; 512], p: Process, d: Descriptor, e: u8)
+    ensures { λ _. ⌜ now (descriptors .exit) ≡ set (now (descriptors .entry)) (slot (p .0) (d .0)) e ⌝ }
+{
+    set_entry(descriptors, 32 * (p.0 as usize) + d.0 as usize, e);
+}
+
+pub fn set_name(names: &mut [u8; 128], n: Name, e: u8)
+    ensures { λ _. ⌜ now (names .exit) ≡ set (now (names .entry)) (n .0) e ⌝ }
+{
+    set_entry(names, n.0 as usize, e);
+}
+
+// Makes a plan.
+fn make(items: &mut [u64], plan: Plan)
+    requires { ⌜ length (now items) ≡ 64 ⌝ }
+    ensures { λ _. ⌜ now (items .exit) ≡ itemsBy (now (items .entry)) plan ⌝ }
+{
+    empty(items, plan.empty);
+    give(items, plan.to, plan.given);
+    give(items, plan.to2, plan.given2);
+}
+
+fn make_part(words: &mut [u64], plan: Plan)
+    requires { ⌜ length (now words) ≡ 97 ⌝ }
+    ensures { λ _. ⌜ ((d n : List ℕ) → let m = view (now (words .entry)) d n in view (now (words .exit)) d n ≡ withItems m (itemsBy (m .items) plan)) ⌝ }
+{
+    make(&mut words[1..65], plan);
+}
+
+// Makes a plan of the items.
+pub fn make_items(words: &mut [u64; 97], plan: Plan)
+    ensures { λ _. ⌜ ((d n : List ℕ) → let m = view (now (words .entry)) d n in view (now (words .exit)) d n ≡ withItems m (itemsBy (m .items) plan)) ⌝ }
+{
+    make_part(words, plan);
+}
+
+fn empty_part(words: &mut [u64], r: u64)
+    requires { ⌜ length (now words) ≡ 97 ⌝ }
+    ensures { λ _. ⌜ ((d n : List ℕ) → let m = view (now (words .entry)) d n in view (now (words .exit)) d n ≡ withItems m (cleared (m .items) r)) ⌝ }
+{
+    empty(&mut words[1..65], r);
+}
+
+// Empties every container of the set r.
+pub fn empty_items(words: &mut [u64; 97], r: u64)
+    ensures { λ _. ⌜ ((d n : List ℕ) → let m = view (now (words .entry)) d n in view (now (words .exit)) d n ≡ withItems m (cleared (m .items) r)) ⌝ }
+{
+    empty_part(words, r);
+}

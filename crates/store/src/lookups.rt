@@ -1,0 +1,175 @@
+// Looking things up. Every number is taken as it is: past a table's end stands what the definitions say.
+use crate::numbers::Container;
+use crate::numbers::Descriptor;
+use crate::numbers::Name;
+use crate::numbers::Process;
+ghost use Prim.Native.Nat.{ℕ};
+ghost use mathlib.Core.Path.{_≡_};
+ghost use mathlib.Core.List.{List};
+ghost use lib.ListN.{getD, length};
+ghost use Rattle.sets.specs.Sets.{has, _∪_};
+ghost use Rattle.flow.specs.Lists.{isIn};
+ghost use Rattle.flow.specs.Box.{isTarget, slot, closed};
+ghost use Rattle.flow.specs.Links.{used, isFed};
+ghost use Rattle.store.specs.Maps.{part, view, unionOf};
+
+// The mark of a closed descriptor and of an unbound name.
+pub const CLOSED: u8 = 255;
+
+// Whether i is a member of x.
+pub fn holds(x: u64, i: u8) -> bool
+    ensures { λ r. ⌜ r ≡ has x i ⌝ }
+{
+    if i < 64 {
+        return sets::member(x, i);
+    }
+    false
+}
+
+// Whether an entry leads to a device, a file or a pipe.
+pub fn leads(e: u8) -> bool
+    ensures { λ r. ⌜ r ≡ isTarget e ⌝ }
+{
+    (e < 8) | ((24 <= e) & (e < 64))
+}
+
+// An entry of a table: closed past its end.
+pub fn entry(table: &[u8], i: usize) -> u8
+    ensures { λ r. ⌜ r ≡ getD (now (table .entry)) i closed ⌝ }
+{
+    if i < table.len() {
+        return table[i];
+    }
+    CLOSED
+}
+
+pub fn descriptor(descriptors: &[u8; 512], p: Process, d: Descriptor) -> u8
+    ensures { λ r. ⌜ r ≡ getD (now (descriptors .entry)) (slot (p .0) (d .0)) closed ⌝ }
+{
+    entry(descriptors, 32 * (p.0 as usize) + d.0 as usize)
+}
+
+pub fn name(names: &[u8; 128], n: Name) -> u8
+    ensures { λ r. ⌜ r ≡ getD (now (names .entry)) (n .0) closed ⌝ }
+{
+    entry(names, n.0 as usize)
+}
+
+pub fn is_open(descriptors: &[u8; 512], p: Process, d: Descriptor) -> bool
+    ensures { λ r. ⌜ r ≡ isTarget (getD (now (descriptors .entry)) (slot (p .0) (d .0)) closed) ⌝ }
+{
+    leads(entry(descriptors, 32 * (p.0 as usize) + d.0 as usize))
+}
+
+pub fn is_bound(names: &[u8; 128], n: Name) -> bool
+    ensures { λ r. ⌜ r ≡ isTarget (getD (now (names .entry)) (n .0) closed) ⌝ }
+{
+    leads(entry(names, n.0 as usize))
+}
+
+// The set of live processes.
+pub fn live(words: &[u64; 97]) -> u64
+    ensures { λ r. ⌜ r ≡ getD (now (words .entry)) 0 0 ⌝ }
+{
+    words[0]
+}
+
+pub fn is_live(words: &[u64; 97], p: Process) -> bool
+    ensures { λ r. ⌜ r ≡ has (getD (now (words .entry)) 0 0) (p .0) ⌝ }
+{
+    holds(words[0], p.0)
+}
+
+// The containers that feed process p.
+pub fn feeders(words: &[u64; 97], p: Process) -> u64
+    ensures { λ r. ⌜ r ≡ getD (part 65 16 (now (words .entry))) (p .0) 0 ⌝ }
+{
+    if p.0 < 16 {
+        return words[65 + p.0 as usize];
+    }
+    0
+}
+
+// Those that it feeds.
+pub fn fed(words: &[u64; 97], p: Process) -> u64
+    ensures { λ r. ⌜ r ≡ getD (part 81 16 (now (words .entry))) (p .0) 0 ⌝ }
+{
+    if p.0 < 16 {
+        return words[81 + p.0 as usize];
+    }
+    0
+}
+
+// The items of container c.
+pub fn items(words: &[u64; 97], c: Container) -> u64
+    ensures { λ r. ⌜ r ≡ getD (part 1 64 (now (words .entry))) (c .0) 0 ⌝ }
+{
+    if c.0 < 64 {
+        return words[1 + c.0 as usize];
+    }
+    0
+}
+
+// Whether c stands in a table.
+fn stands(table: &[u8], c: u8) -> bool
+    ensures { λ r. ⌜ r ≡ isIn c (now (table .entry)) ⌝ }
+{
+    let mut found = 0u8;
+    for i in 0..table.len() {
+        found = found | ((table[i] == c) as u8);
+    }
+    found != 0
+}
+
+// The members of all sets of a slice.
+fn union_of(rows: &[u64]) -> u64
+    ensures { λ r. ⌜ r ≡ unionOf (now (rows .entry)) ⌝ }
+{
+    let mut x = 0u64;
+    for i in 0..rows.len() {
+        x = x | rows[i];
+    }
+    x
+}
+
+// The containers that some process maps.
+fn mapped(words: &[u64]) -> u64
+    requires { ⌜ length (now words) ≡ 97 ⌝ }
+    ensures { λ r. ⌜ r ≡ unionOf (part 65 16 (now (words .entry))) ∪ unionOf (part 81 16 (now (words .entry))) ⌝ }
+{
+    union_of(&words[65..81]) | union_of(&words[81..97])
+}
+
+// The containers that links lead into.
+fn fed_set(words: &[u64]) -> u64
+    requires { ⌜ length (now words) ≡ 97 ⌝ }
+    ensures { λ r. ⌜ r ≡ unionOf (part 81 16 (now (words .entry))) ⌝ }
+{
+    union_of(&words[81..97])
+}
+
+// Whether a link leads into the file, pipe or device c.
+pub fn is_fed(words: &[u64; 97], c: Container) -> bool
+    ensures { λ r. ⌜ ((d n : List ℕ) → r ≡ isFed (view (now (words .entry)) d n .tables) (c .0)) ⌝ }
+{
+    holds(fed_set(words), c.0)
+}
+
+// Whether container c is in use.
+pub fn in_use(words: &[u64; 97], descriptors: &[u8; 512], names: &[u8; 128], c: Container) -> bool
+    ensures { λ r. ⌜ r ≡ used (view (now (words .entry)) (now (descriptors .entry)) (now (names .entry)) .tables) (c .0) ⌝ }
+{
+    if c.0 < 8 {
+        return true;
+    }
+    if c.0 < 24 {
+        return is_live(words, Process(c.0 - 8));
+    }
+    if stands(names, c.0) {
+        return true;
+    }
+    if stands(descriptors, c.0) {
+        return true;
+    }
+    holds(mapped(words), c.0)
+}

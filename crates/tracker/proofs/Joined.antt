@@ -1,0 +1,181 @@
+-- The parts of a call together: refusals, tables, items and what is released make the maps that document 01 says.
+use Prim.Native.Nat.{ℕ, zero, suc, _<_}
+use native.Mathlib.Omega.{arith}
+use mathlib.Core.Path.{_≡_, refl, sym, ap, ap₂, _∙_}
+use mathlib.Core.Bool.{Bool, true, false, not, _&&_}
+use mathlib.Core.List.{List}
+use mathlib.Core.Option.{Option, none, some}
+use lib.Dec.{eqb}
+use lib.Bits.{or-zero-l}
+use lib.ListN.{length, getD}
+use lib.Seq.{ext-getD}
+use Rattle.sets.specs.Sets.{has, only, those, _∪_}
+use Rattle.sets.proofs.Members.{those-has, none-has, only-has, eqb-sym}
+use Rattle.flow.specs.Lists.{firstThat, refusalFrom, table}
+use Rattle.flow.specs.Box.{Tables, descriptor}
+use Rattle.flow.specs.Links.{reach, given, isFed, used}
+use Rattle.flow.specs.Calls.{Kind, start, openName, create, pipe, device, dup, close, read, write, truncate, mapRead, mapBoth, unmap, unlink, rename, link, fork, exit, label, Call as Asked, Flow, still, gift, arrival, exchange, copy, clear, Change, tablesBy, flowBy, change, moved, ended, itemsAfter}
+use Rattle.flow.specs.Records.{kindOf, callBy, callFrom}
+use Rattle.flow.specs.Refusals.{callTests}
+use Rattle.flow.proofs.Bools.{by, no-both, chosen-r}
+use Rattle.flow.proofs.TableLaws.{table-at, table-length, is-table}
+use Rattle.flow.proofs.Moves.{given-at}
+use Rattle.flow.proofs.Accepted.{Accepted}
+use Rattle.store.specs.declared.Plan.{Plan}
+use Rattle.store.specs.Maps.{Maps, withTables, withItems, changed, view, cleared, itemsBy}
+use Rattle.store.proofs.Words.{by-length}
+use Rattle.tracker.specs.declared.Call.{Call}
+use Rattle.tracker.specs.Rows.{asked, callIn, tablesAt, Passes}
+use Rattle.tracker.specs.Plans.{planOf, planBy, planAt, freeSet, empties, gives, lostBy, lostAt, goneOf}
+use Rattle.tracker.specs.Worked.{Worked, done, mapsBy, worked}
+use Rattle.tracker.proofs.Facts.{fit-process, accepted}
+use Rattle.tracker.proofs.Ending.{Ends, ends}
+
+-- ---- a flow is its plan
+-- y, with x where the test holds; nothing where it holds, else y
+abbrev plus : Bool → ℕ → ℕ → ℕ
+plus b x y = elim b [ true ↦ y ∪ x | false ↦ y ]
+
+abbrev unless : Bool → ℕ → ℕ
+unless b y = elim b [ true ↦ 0 | false ↦ y ]
+
+pub by-container : (l : List ℕ) (p : Plan) (v : ℕ) → v < 64
+    → getD (itemsBy l p) v 0 ≡ plus (has (p .to2) v) (p .given2) (plus (has (p .to) v) (p .given) (unless (has (p .empty) v) (getD l v 0)))
+unfolding itemsBy cleared
+by-container l p v h =
+    given-at _ (p .to2) (p .given2) v h
+    ∙ ap (plus (has (p .to2) v) (p .given2)) (given-at _ (p .to) (p .given) v h ∙ ap (plus (has (p .to) v) (p .given)) (table-at 64 _ v 0 h))
+
+module _ (m : Maps) (long : length (m .items) ≡ 64) where
+  abbrev items : List ℕ
+  items = m .items
+
+  as-gifts : (v : ℕ) → v < 64 → (f : Flow)
+      → plus (has (planOf m f .to2) v) (planOf m f .given2) (plus (has (planOf m f .to) v) (planOf m f .given) (unless (has (planOf m f .empty) v) (getD items v 0))) ≡ getD (moved (m .tables) items f) v 0
+  unfolding planOf moved _∪_
+  as-gifts v h still = rw (none-has v)
+  as-gifts v h (gift g u) = rw (none-has v) (sym (given-at items (reach (m .tables) u) (getD items g 0) v h))
+  as-gifts v h (arrival u i) = rw (none-has v) (sym (given-at items (reach (m .tables) u) (only i) v h))
+  as-gifts v h (exchange a b) =
+      rw (none-has v)
+      (sym (given-at _ (reach (m .tables) a) (getD items b 0) v h ∙ ap (plus (has (reach (m .tables) a) v) (getD items b 0)) (given-at items (reach (m .tables) b) (getD items a 0) v h)))
+  as-gifts v h (copy a b) = rw (none-has v, only-has b v, eqb-sym b v) (go (eqb v b) ∙ sym (table-at 64 (λ x. elim (eqb x b) as (λ z. ℕ) [ true ↦ getD items a 0 | false ↦ getD items x 0 ]) v 0 h))
+    where
+      go : (d : Bool) → plus d (getD items a 0) (unless d (getD items v 0)) ≡ elim d as (λ z. ℕ) [ true ↦ getD items a 0 | false ↦ getD items v 0 ]
+      go true = or-zero-l _
+      go false = refl
+  as-gifts v h (clear u) = rw (none-has v, only-has u v, eqb-sym u v) (sym (table-at 64 (λ x. elim (eqb x u) as (λ z. ℕ) [ true ↦ 0 | false ↦ getD items x 0 ]) v 0 h))
+
+  moved-length : (f : Flow) → length (moved (m .tables) items f) ≡ 64
+  unfolding moved given
+  moved-length still = long
+  moved-length (gift g u) = table-length 64 _
+  moved-length (arrival u i) = table-length 64 _
+  moved-length (exchange a b) = table-length 64 _
+  moved-length (copy a b) = table-length 64 _
+  moved-length (clear u) = table-length 64 _
+
+  moved-made : (f : Flow) → itemsBy items (planOf m f) ≡ moved (m .tables) items f
+  moved-made f =
+      ext-getD 0 _ _ (by-length _ _ ∙ sym (moved-length f))
+      (λ v l. let h : v < 64 = omega (arith, by-length items (planOf m f)) in by-container items (planOf m f) v h ∙ as-gifts v h f)
+
+-- a truncation's flow goes by a test
+plan-is : (m : Maps) (p a b c : ℕ) (k : Kind) → planBy m p a b c k ≡ planOf m (flowBy (m .tables) p a b c k)
+unfolding planBy planOf flowBy freeSet
+plan-is m p a b c start = refl
+plan-is m p a b c openName = refl
+plan-is m p a b c create = refl
+plan-is m p a b c pipe = refl
+plan-is m p a b c device = refl
+plan-is m p a b c dup = refl
+plan-is m p a b c close = refl
+plan-is m p a b c read = refl
+plan-is m p a b c write = refl
+plan-is m p a b c truncate = go (isFed (m .tables) (descriptor (m .tables) p a))
+  where
+    go : (d : Bool) → empties (elim d as (λ z. ℕ) [ true ↦ 0 | false ↦ only (descriptor (m .tables) p a) ]) ≡ planOf m (elim d as (λ z. Flow) [ true ↦ still | false ↦ clear (descriptor (m .tables) p a) ])
+    go true = refl
+    go false = refl
+plan-is m p a b c mapRead = refl
+plan-is m p a b c mapBoth = refl
+plan-is m p a b c unmap = refl
+plan-is m p a b c unlink = refl
+plan-is m p a b c rename = refl
+plan-is m p a b c link = refl
+plan-is m p a b c fork = refl
+plan-is m p a b c exit = refl
+plan-is m p a b c label = refl
+
+-- ---- what is released
+lost-ended : (m : Maps) (x : Change) (lost : ℕ) → Ends (m .tables) (x .tables) lost
+    → itemsAfter (m .tables) (m .items) x ≡ cleared (moved (m .tables) (m .items) (x .flow)) (goneOf (x .tables) lost)
+unfolding itemsAfter ended cleared goneOf
+lost-ended m x lost e =
+    sym (is-table 64 _ _ (table-length 64 _)
+    (λ c l. table-at 64 _ c 0 l ∙ ap (λ (b : Bool). elim b as (λ z. ℕ) [ true ↦ 0 | false ↦ getD (moved (m .tables) (m .items) (x .flow)) c 0 ]) (those-has _ c l ∙ same c l)))
+  where
+    same : (c : ℕ) → c < 64 → (has lost c && not (used (x .tables) c)) ≡ (used (m .tables) c && not (used (x .tables) c))
+    same c l =
+        by (has lost c)
+        (λ h. rw (h, e .before c l h) refl)
+        (λ h. by (used (m .tables) c) (λ u. rw (h, u, e .kept c l h u) refl) (λ u. rw (h, u) refl))
+
+-- ---- a call that is not refused
+module _ (m : Maps) (long : length (m .items) ≡ 64) (lf : length (m .tables .feeders) ≡ 16) (lg : length (m .tables .fed) ≡ 16) (ln : length (m .tables .names) ≡ 128) (q : Call) where
+  -- the items moved, then what is no longer in use emptied
+  made : (k : Kind) → Accepted (m .tables) (asked q k)
+      → cleared (itemsBy (m .items) (planAt m q (some k))) (goneOf (tablesAt (m .tables) q (some k)) (lostAt (m .tables) q (some k))) ≡ itemsAfter (m .tables) (m .items) (change (m .tables) (asked q k))
+  unfolding tablesAt planAt lostAt change
+  made k h =
+      ap (λ (l : List ℕ). cleared l (goneOf (tablesBy (m .tables) (q .process) (q .a) (q .b) (q .c) k) (lostBy (m .tables) (q .process) (q .a) (q .b) (q .c) k)))
+      (ap (itemsBy (m .items)) (plan-is m (q .process) (q .a) (q .b) (q .c) k) ∙ moved-made m long (flowBy (m .tables) (q .process) (q .a) (q .b) (q .c) k))
+      ∙ sym (lost-ended m (change (m .tables) (asked q k)) _ (ends (m .tables) lf lg ln (q .process) (q .a) (q .b) (q .c) (fit-process q k (h .fits)) k h))
+
+  tabled-is : (k : Kind) → withItems (withTables m (tablesAt (m .tables) q (some k))) (itemsAfter (m .tables) (m .items) (change (m .tables) (asked q k))) ≡ changed m (change (m .tables) (asked q k))
+  unfolding tablesAt change
+  tabled-is k = refl
+
+  made-by : (o : Option Kind) → firstThat (callTests (m .tables) (callBy o (q .process) (q .a) (q .b) (q .c))) ≡ none → (t v w : Maps) (x : Plan) (lost : ℕ)
+      → t ≡ withTables m (tablesAt (m .tables) q o) → x ≡ planAt m q o → lost ≡ lostAt (m .tables) q o → v ≡ withItems t (itemsBy (t .items) x) → w ≡ withItems v (cleared (v .items) (goneOf (v .tables) lost))
+      → w ≡ mapsBy m (callBy o (q .process) (q .a) (q .b) (q .c)) none
+  unfolding callBy callTests firstThat mapsBy
+  made-by none e t v w x lost et ex el ev ew = absurd (let z : _≡_ {A = ℕ} 0 1 = cc in let y : ⊥ = omega arith in y)
+  made-by (some k) e t v w x lost et ex el ev ew =
+      ew ∙ rw (ev, et, ex, el) (ap (withItems (withTables m (tablesAt (m .tables) q (some k)))) (made k (accepted (m .tables) q k e)) ∙ tabled-is k)
+
+  pub made-call : firstThat (callTests (m .tables) (callIn q)) ≡ none → (t v w : Maps) (x : Plan) (lost : ℕ)
+      → t ≡ withTables m (tablesAt (m .tables) q (kindOf (q .kind))) → x ≡ planAt m q (kindOf (q .kind)) → lost ≡ lostAt (m .tables) q (kindOf (q .kind))
+      → v ≡ withItems t (itemsBy (t .items) x) → w ≡ withItems v (cleared (v .items) (goneOf (v .tables) lost)) → w ≡ mapsBy m (callIn q) none
+  unfolding callFrom
+  made-call e = made-by (kindOf (q .kind)) e
+
+-- ---- what `work` answers
+by-number : (m : Maps) (q : Option Asked) (n : ℕ) (o : Option ℕ) → refusalFrom n ≡ o → (n ≡ 0 → ⊥) → m ≡ mapsBy m q o
+unfolding refusalFrom mapsBy
+by-number m q zero o e z = absurd (z refl)
+by-number m q (suc n) o e z = rw (← e) refl
+
+pub refused : (m : Maps) (q : Option Asked) (n : ℕ) → refusalFrom n ≡ firstThat (callTests (m .tables) q) → (n ≡ 0 → ⊥) → done (refusalFrom n) m ≡ worked m q
+unfolding worked
+refused m q n e z = ap₂ done e (by-number m q n _ e z)
+
+pub passes : (n : ℕ) (o : Option ℕ) → refusalFrom n ≡ o → n ≡ 0 → o ≡ none
+unfolding refusalFrom
+passes n o e z = sym e ∙ rw z refl
+
+pub worked-out : (m w : Maps) (q : Option Asked) → firstThat (callTests (m .tables) q) ≡ none → w ≡ mapsBy m q none → done (refusalFrom 0) w ≡ worked m q
+unfolding worked refusalFrom
+worked-out m w q e h = rw e (ap (done none) h)
+
+-- ---- what `Tracker::call` answers
+pub refused-call : (n : ℕ) (m w : Maps) (q : Option Asked) → (n ≡ 0 → ⊥) → done (refusalFrom n) w ≡ worked m q → done (some n) m ≡ worked m q
+unfolding refusalFrom worked mapsBy
+refused-call zero m w q z e = absurd (z refl)
+refused-call (suc n) m w q z e =
+    let h : some (suc n) ≡ firstThat (callTests (m .tables) q) = ap (λ (x : Worked). x .refusal) e in
+    rw (← h) refl
+
+pub made-done : (n : ℕ) (m w : Maps) (q : Option Asked) → n ≡ 0 → done (refusalFrom n) w ≡ worked m q → done none w ≡ worked m q
+unfolding refusalFrom
+made-done n m w q z e = rw z at e

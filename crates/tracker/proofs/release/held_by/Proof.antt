@@ -1,0 +1,27 @@
+-- `held_by` joins the files of the descriptors and of both rows.
+use Rattle.sets.specs.Sets.{_∪_, _∩_}
+use Rattle.flow.specs.Box.{feedersOf, feeds}
+use Rattle.store.specs.Maps.{view}
+use Rattle.tracker.specs.Plans.{heldBy}
+use borrow.Author.Needs.{needs}
+use Rattle.tracker.proofs.release.held_by.Statement.{statement}
+use Rattle.tracker.proofs.release.held_by.Tie as tie
+
+block-files-requires : tie.Need-block-files-requires
+block-files-requires c κs = search needs
+
+feeders-requires : tie.Need-feeders-requires
+feeders-requires c κs = search needs
+
+fed-requires : tie.Need-fed-requires
+fed-requires c κs = search needs
+
+returns : tie.Need-returns
+unfolding heldBy view feedersOf feeds _∪_ _∩_
+returns c =
+    let c1 = c .before in
+    let c2 = c1 .before in
+    λ n. rw (c2 .block-files .ensures, c1 .feeders .ensures, c .fed .ensures)
+
+pub held-by-spec : {M : Type 1} → statement M
+held-by-spec = tie.close (tie.spec block-files-requires feeders-requires fed-requires returns)

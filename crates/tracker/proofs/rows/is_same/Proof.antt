@@ -1,0 +1,31 @@
+-- `is_same` is the row of test 9.
+use mathlib.Core.Path.{refl}
+use mathlib.Core.Bool.{Bool}
+use mathlib.Core.List.{[], _∷_}
+use mathlib.Core.Option.{Option}
+use Rattle.flow.specs.Calls.{Kind, kindNumber, isKind}
+use Rattle.flow.specs.Records.{kinds}
+use Rattle.flow.specs.Refusals.{sameDescriptors}
+use Rattle.tracker.specs.Rows.{sameAt}
+use Rattle.tracker.proofs.Arms.{kind-arm, kind-rest}
+use Rattle.tracker.proofs.rows.is_same.Statement.{statement}
+use Rattle.tracker.proofs.rows.is_same.Tie as tie
+use borrow.Author.Needs.{needs}
+
+abbrev row : tie.Start → Option Kind → Bool
+row c = sameAt (c .args .q)
+
+returns : tie.Need-returns
+unfolding sameAt sameDescriptors kinds isKind kindNumber
+returns c =
+    let c1 = c .before in
+    kind-arm (row (c1)) (4 ∷ []) _ refl _ (c .match .keys1)
+
+returns-2 : tie.Need-returns-2
+unfolding sameAt sameDescriptors kinds isKind kindNumber
+returns-2 c =
+    let c1 = c .before in
+    kind-rest (row (c1)) ((4 ∷ []) ∷ []) refl _ (c .match .rest)
+
+pub is-same-spec : {M : Type 1} → statement M
+is-same-spec = tie.close (tie.spec returns returns-2)

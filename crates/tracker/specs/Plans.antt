@@ -1,0 +1,100 @@
+-- What a call makes of the items: what it moves, as a plan, and what it may end the use of.
+use Prim.Native.Nat.{ℕ}
+use mathlib.Core.Bool.{true, false, not, _&&_}
+use mathlib.Core.Option.{Option, none, some}
+use lib.ListN.{getD}
+use Rattle.sets.specs.Sets.{has, only, those, _∪_, _∩_}
+use Rattle.flow.specs.Box.{containerOf, Tables, feedersOf, feeds, descriptor, name}
+use Rattle.flow.specs.Links.{reach, isFed, used}
+use Rattle.flow.specs.Calls.{Kind, start, openName, create, pipe, device, dup, close, read, write, truncate, mapRead, mapBoth, unmap, unlink, rename, link, fork, exit, label, Flow, still, gift, arrival, exchange, copy, clear, block, flowBy}
+use Rattle.store.specs.declared.Plan.{Plan}
+use Rattle.store.specs.Maps.{Maps, files, fileSet, filesIn}
+use Rattle.tracker.specs.declared.Call.{Call}
+
+-- ---- plans
+abbrev pub plan : ℕ → ℕ → ℕ → ℕ → ℕ → Plan
+plan e x r y t = record { empty = e; given = x; to = r; given2 = y; to2 = t }
+
+abbrev pub empties : ℕ → Plan
+empties x = plan x 0 0 0 0
+
+abbrev pub gives : ℕ → ℕ → Plan
+gives x r = plan 0 x r 0 0
+
+-- a flow as a plan
+unfoldable pub planOf : Maps → Flow → Plan
+planOf m still = empties 0
+planOf m (gift g u) = gives (getD (m .items) g 0) (reach (m .tables) u)
+planOf m (arrival u i) = gives (only i) (reach (m .tables) u)
+planOf m (exchange a b) = plan 0 (getD (m .items) a 0) (reach (m .tables) b) (getD (m .items) b 0) (reach (m .tables) a)
+planOf m (copy a b) = plan (only b) (getD (m .items) a 0) (only b) 0 0
+planOf m (clear u) = empties (only u)
+
+-- the set of v where no link isTarget into c
+unfoldable pub freeSet : Tables → ℕ → ℕ → ℕ
+freeSet t c v = elim (isFed t c) [ true ↦ 0 | false ↦ only v ]
+
+-- a truncation, whose flow goes by a test, has it in the set
+unfoldable pub planBy : Maps → ℕ → ℕ → ℕ → ℕ → Kind → Plan
+planBy m p a b c start = planOf m (flowBy (m .tables) p a b c start)
+planBy m p a b c openName = planOf m (flowBy (m .tables) p a b c openName)
+planBy m p a b c create = planOf m (flowBy (m .tables) p a b c create)
+planBy m p a b c pipe = planOf m (flowBy (m .tables) p a b c pipe)
+planBy m p a b c device = planOf m (flowBy (m .tables) p a b c device)
+planBy m p a b c dup = planOf m (flowBy (m .tables) p a b c dup)
+planBy m p a b c close = planOf m (flowBy (m .tables) p a b c close)
+planBy m p a b c read = planOf m (flowBy (m .tables) p a b c read)
+planBy m p a b c write = planOf m (flowBy (m .tables) p a b c write)
+planBy m p a b c truncate = empties (freeSet (m .tables) (descriptor (m .tables) p a) (descriptor (m .tables) p a))
+planBy m p a b c mapRead = planOf m (flowBy (m .tables) p a b c mapRead)
+planBy m p a b c mapBoth = planOf m (flowBy (m .tables) p a b c mapBoth)
+planBy m p a b c unmap = planOf m (flowBy (m .tables) p a b c unmap)
+planBy m p a b c unlink = planOf m (flowBy (m .tables) p a b c unlink)
+planBy m p a b c rename = planOf m (flowBy (m .tables) p a b c rename)
+planBy m p a b c link = planOf m (flowBy (m .tables) p a b c link)
+planBy m p a b c fork = planOf m (flowBy (m .tables) p a b c fork)
+planBy m p a b c exit = planOf m (flowBy (m .tables) p a b c exit)
+planBy m p a b c label = planOf m (flowBy (m .tables) p a b c label)
+
+unfoldable pub planAt : Maps → Call → Option Kind → Plan
+planAt m q none = empties 0
+planAt m q (some k) = planBy m (q .process) (q .a) (q .b) (q .c) k
+
+-- ---- uses that may end
+-- the files and pipes that process q isTarget to or maps
+unfoldable pub heldBy : Tables → ℕ → ℕ
+heldBy t q = filesIn (block (t .descriptors) q) ∪ ((feedersOf t q ∪ feeds t q) ∩ files)
+
+-- the containers that a call may end the use of
+unfoldable pub lostBy : Tables → ℕ → ℕ → ℕ → ℕ → Kind → ℕ
+lostBy t p a b c start = 0
+lostBy t p a b c openName = 0
+lostBy t p a b c create = 0
+lostBy t p a b c pipe = 0
+lostBy t p a b c device = 0
+lostBy t p a b c dup = 0
+lostBy t p a b c close = fileSet (descriptor t p a)
+lostBy t p a b c read = 0
+lostBy t p a b c write = 0
+lostBy t p a b c truncate = 0
+lostBy t p a b c mapRead = 0
+lostBy t p a b c mapBoth = 0
+lostBy t p a b c unmap = fileSet a
+lostBy t p a b c unlink = fileSet (name t a)
+lostBy t p a b c rename = fileSet (name t b)
+lostBy t p a b c link = 0
+lostBy t p a b c fork = heldBy t a
+lostBy t p a b c exit = heldBy t p ∪ only (containerOf p)
+lostBy t p a b c label = 0
+
+unfoldable pub lostAt : Tables → Call → Option Kind → ℕ
+lostAt t q none = 0
+lostAt t q (some k) = lostBy t (q .process) (q .a) (q .b) (q .c) k
+
+-- the set of v where c is not in use
+unfoldable pub unusedSet : Tables → ℕ → ℕ → ℕ
+unusedSet t c v = elim (used t c) [ true ↦ 0 | false ↦ only v ]
+
+-- of the set lost, those that are not in use
+unfoldable pub goneOf : Tables → ℕ → ℕ
+goneOf t lost = those (λ c. has lost c && not (used t c))

@@ -1,0 +1,68 @@
+-- The rows of the table of refusals, and the tables after a call, at a call that stands in five bytes.
+use Prim.Native.Nat.{ℕ}
+use mathlib.Core.Bool.{Bool, true, false, not}
+use mathlib.Core.Path.{_≡_}
+use mathlib.Core.List.{List}
+use mathlib.Core.Option.{Option, none, some}
+use Rattle.flow.specs.Lists.{firstThat}
+use Rattle.flow.specs.Box.{Tables, isLive}
+use Rattle.flow.specs.Calls.{Kind, Call as Asked, tablesBy}
+use Rattle.flow.specs.Records.{callFrom}
+use Rattle.flow.specs.Refusals.{ranges, fieldsFit, dead, taken, missing, sameDescriptors, noFile, callTests}
+use Rattle.store.specs.Maps.{view}
+use Rattle.tracker.specs.declared.Call.{Call}
+
+abbrev pub asked : Call → Kind → Asked
+asked q k = record { kind = k; process = q .process; a = q .a; b = q .b; c = q .c }
+
+-- the call of the five bytes, if its kind is known
+abbrev pub callIn : Call → Option Asked
+callIn q = callFrom (q .kind) (q .process) (q .a) (q .b) (q .c)
+
+-- ---- each row, where the kind is known or not
+unfoldable pub known : Option Kind → Bool
+known none = false
+known (some k) = true
+
+unfoldable pub fitsAt : Call → Option Kind → Bool
+fitsAt q none = false
+fitsAt q (some k) = fieldsFit (ranges k) (asked q k)
+
+unfoldable pub deadAt : Tables → Call → Option Kind → Bool
+deadAt t q none = not (isLive t (q .process))
+deadAt t q (some k) = dead t (asked q k)
+
+unfoldable pub takenAt : Tables → Call → Option Kind → Bool
+takenAt t q none = false
+takenAt t q (some k) = taken t (q .process) (q .a) (q .b) (q .c) k
+
+unfoldable pub missingAt : Tables → Call → Option Kind → Bool
+missingAt t q none = false
+missingAt t q (some k) = missing t (q .process) (q .a) (q .b) (q .c) k
+
+unfoldable pub sameAt : Call → Option Kind → Bool
+sameAt q none = false
+sameAt q (some k) = sameDescriptors (asked q k)
+
+unfoldable pub noFileAt : Tables → Call → Option Kind → Bool
+noFileAt t q none = false
+noFileAt t q (some k) = noFile t (asked q k)
+
+-- the number of the first that holds of dead process, taken, missing, same twice and no file, and 0 where none holds
+unfoldable pub lowestOf : Bool → Bool → Bool → Bool → Bool → ℕ
+lowestOf dead taken missing same nofile =
+    elim dead [
+      | true ↦ 6
+      | false ↦ elim taken [
+        | true ↦ 7
+        | false ↦ elim missing [ true ↦ 8 | false ↦ elim same [ true ↦ 9 | false ↦ elim nofile [ true ↦ 10 | false ↦ 0 ] ] ]
+      ]
+    ]
+
+unfoldable pub tablesAt : Tables → Call → Option Kind → Tables
+tablesAt t q none = t
+tablesAt t q (some k) = tablesBy t (q .process) (q .a) (q .b) (q .c) k
+
+-- ---- no test holds of the call: it is not refused
+pub record Passes (words descriptors names : List ℕ) (q : Call) : Type 0 where
+  pub none-holds : firstThat (callTests (view words descriptors names .tables) (callIn q)) ≡ none

@@ -1,0 +1,181 @@
+// The rows of the table of refusals (document 01, What a record gets), one function each: refusals 4 to 10 of a call.
+use crate::Call;
+use store::lookups::descriptor;
+use store::lookups::fed;
+use store::lookups::feeders;
+use store::lookups::holds;
+use store::lookups::in_use;
+use store::lookups::is_bound;
+use store::lookups::is_live;
+use store::lookups::is_open;
+use store::numbers::Container;
+use store::numbers::Descriptor;
+use store::numbers::Name;
+use store::numbers::Process;
+ghost use Prim.Native.Nat.{ℕ};
+ghost use mathlib.Core.Path.{_≡_};
+ghost use mathlib.Core.List.{List};
+ghost use Rattle.flow.specs.Lists.{firstThat, refusalFrom};
+ghost use Rattle.flow.specs.Records.{kindOf};
+ghost use Rattle.flow.specs.Refusals.{callTests};
+ghost use Rattle.store.specs.Maps.{view};
+ghost use Rattle.tracker.specs.Rows.{known, fitsAt, deadAt, takenAt, missingAt, sameAt, noFileAt, callIn, lowestOf};
+
+// 4: whether the number is a kind's.
+fn is_known(kind: u8) -> bool
+    ensures { λ r. ⌜ r ≡ known (kindOf kind) ⌝ }
+{
+    if kind == 0 {
+        return false;
+    }
+    if kind < 20 {
+        return true;
+    }
+    false
+}
+
+// 5: whether the fields are in their ranges.
+fn fits(q: Call) -> bool
+    ensures { λ r. ⌜ r ≡ fitsAt q (kindOf (q .kind)) ⌝ }
+{
+    let kind = q.kind;
+    let p = q.process;
+    let a = q.a;
+    let b = q.b;
+    let c = q.c;
+    match kind {
+        1 | 18 => (p < 16) & (a == 0) & (b == 0) & (c == 0),
+        2 => (p < 16) & (a < 128) & (b < 32) & (c == 0),
+        3 => (p < 16) & (a < 128) & (b < 32) & ((24 <= c) & (c < 64)),
+        4 => (p < 16) & (a < 32) & (b < 32) & ((24 <= c) & (c < 64)),
+        5 => (p < 16) & (a < 32) & (b < 8) & (c == 0),
+        6 => (p < 16) & (a < 32) & (b < 32) & (c == 0),
+        7 | 8 | 9 | 10 | 11 | 12 => (p < 16) & (a < 32) & (b == 0) & (c == 0),
+        13 => (p < 16) & (a < 64) & (b == 0) & (c == 0),
+        14 => (p < 16) & (a < 128) & (b == 0) & (c == 0),
+        15 | 16 => (p < 16) & (a < 128) & (b < 128) & (c == 0),
+        17 => (p < 16) & (a < 16) & (b == 0) & (c == 0),
+        19 => (p == 0) & (a < 64) & (b < 64) & (c == 0),
+        _ => false,
+    }
+}
+
+// 6: the calling process is not live.
+fn is_dead(words: &[u64; 97], q: Call) -> bool
+    ensures { λ r. ⌜ ((d n : List ℕ) → r ≡ deadAt (view (now (words .entry)) d n .tables) q (kindOf (q .kind))) ⌝ }
+{
+    let kind = q.kind;
+    let p = q.process;
+    match kind {
+        1 | 19 => false,
+        _ => !is_live(words, Process(p)),
+    }
+}
+
+// 7: what the call is to make is there already.
+fn is_taken(words: &[u64; 97], descriptors: &[u8; 512], names: &[u8; 128], q: Call) -> bool
+    ensures { λ r. ⌜ r ≡ takenAt (view (now (words .entry)) (now (descriptors .entry)) (now (names .entry)) .tables) q (kindOf (q .kind)) ⌝ }
+{
+    let kind = q.kind;
+    let p = q.process;
+    let a = q.a;
+    let b = q.b;
+    let c = q.c;
+    match kind {
+        1 => is_live(words, Process(p)),
+        2 | 6 => is_open(descriptors, Process(p), Descriptor(b)),
+        3 => is_bound(names, Name(a))
+            | is_open(descriptors, Process(p), Descriptor(b))
+            | in_use(words, descriptors, names, Container(c)),
+        4 => is_open(descriptors, Process(p), Descriptor(a))
+            | is_open(descriptors, Process(p), Descriptor(b))
+            | in_use(words, descriptors, names, Container(c)),
+        5 => is_open(descriptors, Process(p), Descriptor(a)),
+        16 => is_bound(names, Name(b)),
+        17 => is_live(words, Process(a)),
+        _ => false,
+    }
+}
+
+// 8: what the call needs is not there.
+fn is_missing(words: &[u64; 97], descriptors: &[u8; 512], names: &[u8; 128], q: Call) -> bool
+    ensures { λ r. ⌜ r ≡ missingAt (view (now (words .entry)) (now (descriptors .entry)) (now (names .entry)) .tables) q (kindOf (q .kind)) ⌝ }
+{
+    let kind = q.kind;
+    let p = q.process;
+    let a = q.a;
+    match kind {
+        2 | 14 | 15 | 16 => !is_bound(names, Name(a)),
+        6 | 7 | 8 | 9 | 10 | 11 | 12 => !is_open(descriptors, Process(p), Descriptor(a)),
+        13 => !(holds(feeders(words, Process(p)), a) | holds(fed(words, Process(p)), a)),
+        19 => !in_use(words, descriptors, names, Container(a)),
+        _ => false,
+    }
+}
+
+// 9: the two descriptors are one.
+fn is_same(q: Call) -> bool
+    ensures { λ r. ⌜ r ≡ sameAt q (kindOf (q .kind)) ⌝ }
+{
+    let kind = q.kind;
+    let a = q.a;
+    let b = q.b;
+    match kind {
+        4 => a == b,
+        _ => false,
+    }
+}
+
+// 10: a device cannot be truncated.
+fn is_no_file(descriptors: &[u8; 512], q: Call) -> bool
+    ensures { λ r. ⌜ ((w n : List ℕ) → r ≡ noFileAt (view w (now (descriptors .entry)) n .tables) q (kindOf (q .kind))) ⌝ }
+{
+    let kind = q.kind;
+    let p = q.process;
+    let a = q.a;
+    match kind {
+        10 => descriptor(descriptors, Process(p), Descriptor(a)) < 8,
+        _ => false,
+    }
+}
+
+// The lowest refusal from 6 on that applies, or 0.
+fn lowest(dead: bool, taken: bool, missing: bool, same: bool, nofile: bool) -> u8
+    ensures { λ r. ⌜ r ≡ lowestOf dead taken missing same nofile ⌝ }
+{
+    if dead {
+        return 6;
+    }
+    if taken {
+        return 7;
+    }
+    if missing {
+        return 8;
+    }
+    if same {
+        return 9;
+    }
+    if nofile {
+        return 10;
+    }
+    0
+}
+
+// The first of the tests 4 to 10 that holds, or 0.
+pub fn refusal(words: &[u64; 97], descriptors: &[u8; 512], names: &[u8; 128], q: Call) -> u8
+    ensures { λ r. ⌜ refusalFrom r ≡ firstThat (callTests (view (now (words .entry)) (now (descriptors .entry)) (now (names .entry)) .tables) (callIn q)) ⌝ }
+{
+    if fits(q) {
+        return lowest(
+            is_dead(words, q),
+            is_taken(words, descriptors, names, q),
+            is_missing(words, descriptors, names, q),
+            is_same(q),
+            is_no_file(descriptors, q),
+        );
+    }
+    if is_known(q.kind) {
+        return 5;
+    }
+    4
+}
