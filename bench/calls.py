@@ -9,10 +9,11 @@ of target/bin/test_calls with the call and one without it.
 from pathlib import Path
 from typing import Dict, List, NamedTuple
 
-from counting import INPUT_BUFFER, BadRun, Report, instructions, peak_of, row, rule_of, say
-from states import KIND_NAMES, ROOT, Case, small_cases, worst_cases
-from limits import UNKNOWN_KIND
-from records import Call
+from bench.counting import INPUT_BUFFER, BadRun, Report, instructions, peak_of, row, rule_of, say
+from bench.states import KIND_NAMES, Case, small_cases, worst_cases
+from model import ROOT
+from model.limits import UNKNOWN_KIND
+from model.records import Call
 
 IN_PLACE = ROOT / "target" / "bin" / "bench_calls"
 BY_VALUE = ROOT / "target" / "bin" / "test_calls"

@@ -2,24 +2,14 @@
 
 from typing import Dict, List, NamedTuple, Tuple
 
-from counting import row, rule_of, say
-from logcases import (
-    CONFINING,
-    DIVERTED,
-    INHIBITED,
-    PLACES,
-    RULE_TABLES,
-    SEEDS,
-    LogCase,
-    call_cases,
-    growing_log,
-    other_cases,
-    write_case,
-)
-from programs import Pair, both, costs, log_cost
-from states import D_FIRST, GIVER, KIND_NAMES, N_FIRST, link_of_chain
-from limits import CREATE, EXIT, FILES, LABEL, OPEN, PROCESSES, START, WRITE, process_container
-from records import Call, encode
+from bench.counting import row, rule_of, say
+from bench.logcases import CONFINING, DIVERTED, INHIBITED, PLACES, RULE_TABLES, SEEDS, LogCase
+from bench.logcases import call_cases, growing_log, other_cases, write_case
+from bench.programs import Pair, both, costs, log_cost
+from bench.states import D_FIRST, GIVER, KIND_NAMES, N_FIRST, link_of_chain
+from model.limits import CREATE, EXIT, FILES, LABEL, OPEN, PROCESSES, START, WRITE
+from model.limits import process_container
+from model.records import Call, encode
 
 STATES = ("small", "worst")
 RULE_COUNTS = (0, 32)

@@ -4,10 +4,11 @@ import subprocess
 from pathlib import Path
 from typing import Dict, List, NamedTuple, Tuple
 
-from counting import BadRun, Report, instructions, peak_of, prose, row, rule_of, say
-from logcases import CASES, CONFINING
-from states import KIND_NAMES, ROOT, Case
-from records import Rule, encode
+from bench.counting import BadRun, Report, instructions, peak_of, prose, row, rule_of, say
+from bench.logcases import CASES, CONFINING
+from bench.states import KIND_NAMES, Case
+from model import ROOT
+from model.records import Rule, encode
 
 ARCHIVE = ROOT / "target" / "staticlib" / "libhook.a"
 SOURCE = ROOT / "bench" / "hookcost.c"

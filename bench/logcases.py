@@ -6,31 +6,12 @@ there, so no rule is broken but where a record is to break one.
 """
 
 import functools
-import sys
 from typing import Dict, List, NamedTuple
 
-from states import (
-    D_LAST,
-    FILLER,
-    FIRST,
-    FREE,
-    GIVER,
-    HIDDEN,
-    KIND_NAMES,
-    N_LAST,
-    ROOT,
-    Case,
-    small_cases,
-    small_laden_cases,
-    worst_cases,
-    worst_laden_cases,
-)
-
-sys.path.insert(0, str(ROOT / "tests" / "logtests"))
-
-from compare import model_lines  # noqa: E402
-from generate import MIXES  # noqa: E402
-from limits import (  # noqa: E402
+from bench.states import D_LAST, FILLER, FIRST, FREE, GIVER, HIDDEN, KIND_NAMES, N_LAST, Case
+from bench.states import small_cases, small_laden_cases, worst_cases, worst_laden_cases
+from model.generate import MIXES
+from model.limits import (
     BROKEN_ALREADY,
     CALL_TAG,
     CLOSE,
@@ -50,8 +31,8 @@ from limits import (  # noqa: E402
     OUT_OF_RANGE,
     PROCESSES,
     READ,
-    RULE_LIMIT,
     RULES_FULL,
+    RULE_LIMIT,
     SAME_TWICE,
     START,
     TAKEN,
@@ -64,8 +45,9 @@ from limits import (  # noqa: E402
     WRONG_LENGTH,
     process_container,
 )
-from randomlogs import LogGenerator  # noqa: E402
-from records import Call, Rule, combination, deny, encode, frame_bytes, limit  # noqa: E402
+from model.records import Call, Rule, combination, deny, encode, frame_bytes, limit
+from tests.logtests.compare import model_lines
+from tests.logtests.randomlogs import LogGenerator
 
 RULE_NUMBERS = range(RULE_LIMIT)
 LAST_RULE = RULE_NUMBERS[-1]

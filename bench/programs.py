@@ -5,10 +5,10 @@ import subprocess
 from pathlib import Path
 from typing import Callable, List, NamedTuple, Sequence, Tuple
 
-from counting import BadRun, instructions
-from logcases import LogCase
-from states import ROOT
-from records import encode, frame_bytes
+from bench.counting import BadRun, instructions
+from bench.logcases import LogCase
+from model import ROOT
+from model.records import encode, frame_bytes
 
 BUILD = ROOT / "bench" / "baseline" / "build"
 BUILD_SECONDS = 120

@@ -5,41 +5,12 @@ those that the call gives. So no measured call changes what the program prints
 at its end. The tracker only moves items: no branch goes by them.
 """
 
-import sys
-from pathlib import Path
 from typing import Dict, List, NamedTuple
 
-ROOT = Path(__file__).resolve().parent.parent
-sys.path.insert(0, str(ROOT / "model"))
-
-from limits import (  # noqa: E402
-    CLOSE,
-    CREATE,
-    DESCRIPTORS,
-    DEVICE,
-    DEVICES,
-    DUP,
-    EXIT,
-    FILES,
-    FORK,
-    LABEL,
-    LINK,
-    MAP_BOTH,
-    MAP_READ,
-    NAMES,
-    OPEN,
-    PIPE,
-    PROCESSES,
-    READ,
-    RENAME,
-    START,
-    TRUNCATE,
-    UNLINK,
-    UNMAP,
-    WRITE,
-    process_container,
-)
-from records import Call  # noqa: E402
+from model.limits import CLOSE, CREATE, DESCRIPTORS, DEVICE, DEVICES, DUP, EXIT, FILES, FORK, LABEL
+from model.limits import LINK, MAP_BOTH, MAP_READ, NAMES, OPEN, PIPE, PROCESSES, READ, RENAME, START
+from model.limits import TRUNCATE, UNLINK, UNMAP, WRITE, process_container
+from model.records import Call
 
 KIND_NAMES = {
     START: "start",

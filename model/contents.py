@@ -7,26 +7,10 @@ verdicts from the tracker's states and decides by itself what moves.
 import hashlib
 from typing import Any, Callable, Dict, Iterable, List, NamedTuple, Optional, Set, Tuple, Union
 
-from limits import (
-    CALL_TAG,
-    CONTAINERS,
-    CREATE,
-    EXIT,
-    FILES,
-    FORK,
-    LABEL,
-    MAP_BOTH,
-    MAP_READ,
-    PIPE,
-    READ,
-    START,
-    TRUNCATE,
-    VALUE_LENGTHS,
-    WRITE,
-    process_container,
-)
-from records import Call, decode_call, read_frame
-from tracker import Answer, State, Tracker, forbids
+from model.limits import CALL_TAG, CONTAINERS, CREATE, EXIT, FILES, FORK, LABEL, MAP_BOTH, MAP_READ
+from model.limits import PIPE, READ, START, TRUNCATE, VALUE_LENGTHS, WRITE, process_container
+from model.records import Call, decode_call, read_frame
+from model.tracker import Answer, State, Tracker, forbids
 
 
 class RecordStep(NamedTuple):

@@ -2,28 +2,12 @@
 
 from typing import Optional
 
-from choices import Choices
-from limits import (
-    ACTIONS,
-    CALL_TAG,
-    COMBINATION_TAG,
-    CONTAINERS,
-    DENY_TAG,
-    DEVICES,
-    DUP,
-    ITEMS,
-    KINDS,
-    LIMIT_TAG,
-    LINK,
-    OPEN,
-    PIPE,
-    PROCESSES,
-    RULE_LIMIT,
-    TRUNCATE,
-    VALUE_LENGTHS,
-)
-from proposals import FIELDS, Proposer
-from records import Call, Rule, combination, encode, frame_bytes
+from model.choices import Choices
+from model.limits import ACTIONS, CALL_TAG, COMBINATION_TAG, CONTAINERS, DENY_TAG, DEVICES, DUP
+from model.limits import ITEMS, KINDS, LIMIT_TAG, LINK, OPEN, PIPE, PROCESSES, RULE_LIMIT, TRUNCATE
+from model.limits import VALUE_LENGTHS
+from model.proposals import FIELDS, Proposer
+from model.records import Call, Rule, combination, encode, frame_bytes
 
 # Tags beside the known ones, those of later papers first.
 OTHER_TAGS = [*range(0x14, 0x1C), 0x00, 0x01, 0x0F, 0x1C, 0x20, 0x7F, 0x80, 0x90, 0xFF]

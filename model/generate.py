@@ -5,35 +5,15 @@ The same seed, number and mix give the same log.
 
 from typing import List, NamedTuple, Optional
 
-from choices import Choices
-from contents import MemoryStep, RecordStep, Step
-from faults import FaultMaker
-from limits import (
-    CLOSE,
-    CONTAINERS,
-    CREATE,
-    DEVICE,
-    DUP,
-    EXIT,
-    FORK,
-    LABEL,
-    LINK,
-    MAP_BOTH,
-    MAP_READ,
-    OPEN,
-    PIPE,
-    READ,
-    RENAME,
-    START,
-    TRUNCATE,
-    UNLINK,
-    UNMAP,
-    WRITE,
-)
-from plans import Planner
-from proposals import Proposer
-from records import encode
-from tracker import Tracker
+from model.choices import Choices
+from model.contents import MemoryStep, RecordStep, Step
+from model.faults import FaultMaker
+from model.limits import CLOSE, CONTAINERS, CREATE, DEVICE, DUP, EXIT, FORK, LABEL, LINK, MAP_BOTH
+from model.limits import MAP_READ, OPEN, PIPE, READ, RENAME, START, TRUNCATE, UNLINK, UNMAP, WRITE
+from model.plans import Planner
+from model.proposals import Proposer
+from model.records import encode
+from model.tracker import Tracker
 
 # How often a sound call is of each kind.
 KIND_WEIGHTS = [

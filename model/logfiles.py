@@ -15,9 +15,9 @@ import tempfile
 from contextlib import contextmanager, suppress
 from typing import Any, BinaryIO, Callable, Iterator, List, NamedTuple, Optional, TextIO
 
-from limits import HEADER_LENGTH, LOG_LIMIT
-from logtext import BadLine, assemble, counted, split_records
-from records import read_frame
+from model.limits import HEADER_LENGTH, LOG_LIMIT
+from model.logtext import BadLine, assemble, counted, split_records
+from model.records import read_frame
 
 STANDARD = "-"
 INPUT_LIMIT = 64 * LOG_LIMIT  # bytes of any input: a text is longer than its log

@@ -8,9 +8,9 @@ Bytes that no form fits are written as a raw line.
 import re
 from typing import Callable, Dict, Iterable, List, NamedTuple, Optional, Tuple
 
-import limits
-from limits import CALL_TAG, COMBINATION_TAG, DENY_TAG, LIMIT_TAG
-from records import frame_bytes, read_frame
+from model import limits
+from model.limits import CALL_TAG, COMBINATION_TAG, DENY_TAG, LIMIT_TAG
+from model.records import frame_bytes, read_frame
 
 BYTE = range(0, 256)
 RAW = "raw"

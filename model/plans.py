@@ -2,8 +2,8 @@
 
 from typing import List, Optional, Union
 
-from choices import Choices
-from limits import (
+from model.choices import Choices
+from model.limits import (
     CLOSE,
     CONTAINERS,
     CREATE,
@@ -30,8 +30,8 @@ from limits import (
     WRITE,
     process_container,
 )
-from proposals import Proposer
-from records import Call, Rule, combination, deny, limit
+from model.proposals import Proposer
+from model.records import Call, Rule, combination, deny, limit
 
 Plan = List[Union[Call, Rule]]
 

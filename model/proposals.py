@@ -2,8 +2,8 @@
 
 from typing import Dict, Iterable, List, Optional, Tuple
 
-from choices import Choices
-from limits import (
+from model.choices import Choices
+from model.limits import (
     ACTIONS,
     CLOSE,
     COMBINATION_TAG,
@@ -38,8 +38,8 @@ from limits import (
     WRITE,
     process_container,
 )
-from records import Call, Rule, combination, deny, limit
-from tracker import FIELD_RANGES, State, Tracker, substitutes
+from model.records import Call, Rule, combination, deny, limit
+from model.tracker import FIELD_RANGES, State, Tracker, substitutes
 
 FIELDS = Call._fields[1:]
 

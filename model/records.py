@@ -2,16 +2,8 @@
 
 from typing import FrozenSet, Iterable, NamedTuple, Optional, Tuple, Union
 
-from limits import (
-    CALL_TAG,
-    COMBINATION_TAG,
-    CONTAINERS,
-    DENY_TAG,
-    HEADER_LENGTH,
-    LIMIT_TAG,
-    SET_BYTES,
-    process_container,
-)
+from model.limits import CALL_TAG, COMBINATION_TAG, CONTAINERS, DENY_TAG, HEADER_LENGTH, LIMIT_TAG
+from model.limits import SET_BYTES, process_container
 
 
 class Call(NamedTuple):

@@ -3,17 +3,10 @@
 from collections import Counter
 from typing import List, Set
 
-from limits import (
-    CALL_TAG,
-    DIVERT_ACTION,
-    EXIT,
-    FILES,
-    FORK,
-    START,
-    TRUNCATE,
-)
-from records import Call, decode_call, decode_rule, read_frame
-from tracker import Answer, State, Tracker, broken_rules, divert_obstacle, frame_refusals, work_out
+from model.limits import CALL_TAG, DIVERT_ACTION, EXIT, FILES, FORK, START, TRUNCATE
+from model.records import Call, decode_call, decode_rule, read_frame
+from model.tracker import Answer, State, Tracker, broken_rules, divert_obstacle, frame_refusals
+from model.tracker import work_out
 
 
 class Tally:

@@ -4,42 +4,18 @@ import functools
 from typing import Dict, List, Tuple
 from unittest import mock
 
-import tracker
-from checks import Checks, Options
-from choices import Choices
-from contents import (
-    MixedFunctions,
-    RecordStep,
-    Step,
-    TwinReport,
-    TwinRun,
-    VariedFunctions,
-    call_of,
-    exactness_faults,
-)
-from generate import MIXES, generate_records, generate_steps
-from limits import (
-    CLOSE,
-    COMBINATION_TAG,
-    CONTAINERS,
-    DENY_TAG,
-    EXIT,
-    FILES,
-    FORK,
-    KINDS,
-    LABEL,
-    LIMIT_TAG,
-    MAP_BOTH,
-    PROCESS_CONTAINERS,
-    RENAME,
-    TRUNCATE,
-    UNLINK,
-    UNMAP,
-    process_container,
-)
-from records import Call, Rule, read_frame
-from tally import Tally
-from tracker import NO_ITEMS, State, Tracker
+from model import tracker
+from model.checks import Checks, Options
+from model.choices import Choices
+from model.contents import MixedFunctions, RecordStep, Step, TwinReport, TwinRun, VariedFunctions
+from model.contents import call_of, exactness_faults
+from model.generate import MIXES, generate_records, generate_steps
+from model.limits import CLOSE, COMBINATION_TAG, CONTAINERS, DENY_TAG, EXIT, FILES, FORK, KINDS
+from model.limits import LABEL, LIMIT_TAG, MAP_BOTH, PROCESS_CONTAINERS, RENAME, TRUNCATE, UNLINK
+from model.limits import UNMAP, process_container
+from model.records import Call, Rule, read_frame
+from model.tally import Tally
+from model.tracker import NO_ITEMS, State, Tracker
 
 STEPS = 160
 RECORDS = 150

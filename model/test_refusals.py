@@ -2,34 +2,13 @@
 
 from typing import List, Set, Tuple, Union
 
-from checks import Checks, Options
-from limits import (
-    CALL_TAG,
-    CLOSE,
-    CONTAINERS,
-    CREATE,
-    DENY_TAG,
-    DEVICE,
-    DUP,
-    EXIT,
-    FORK,
-    LABEL,
-    LINK,
-    MAP_BOTH,
-    MAP_READ,
-    OPEN,
-    PIPE,
-    READ,
-    RENAME,
-    START,
-    TRUNCATE,
-    UNLINK,
-    UNMAP,
-    WRITE,
-)
-from records import Call, Rule, combination, deny, encode, frame_bytes, limit, read_frame
-from test_runs import allows
-from tracker import Tracker, call_refusals, frame_refusals, refused, rule_refusals
+from model.checks import Checks, Options
+from model.limits import CALL_TAG, CLOSE, CONTAINERS, CREATE, DENY_TAG, DEVICE, DUP, EXIT, FORK
+from model.limits import LABEL, LINK, MAP_BOTH, MAP_READ, OPEN, PIPE, READ, RENAME, START, TRUNCATE
+from model.limits import UNLINK, UNMAP, WRITE
+from model.records import Call, Rule, combination, deny, encode, frame_bytes, limit, read_frame
+from model.test_runs import allows
+from model.tracker import Tracker, call_refusals, frame_refusals, refused, rule_refusals
 
 # Processes 0 and 1 live; name 5 and descriptor 0 lead to 24, which holds items 1
 # and 2; descriptor 1 leads to device 1; 16 lies in device 2 alone.

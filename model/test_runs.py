@@ -2,31 +2,11 @@
 
 from typing import Dict, List, Set, Tuple, Union
 
-from checks import Checks, Options
-from limits import (
-    CLOSE,
-    CONTAINERS,
-    CREATE,
-    DEVICE,
-    DUP,
-    EXIT,
-    FORK,
-    LABEL,
-    LINK,
-    MAP_BOTH,
-    MAP_READ,
-    OPEN,
-    PIPE,
-    READ,
-    RENAME,
-    START,
-    TRUNCATE,
-    UNLINK,
-    UNMAP,
-    WRITE,
-)
-from records import Call, Rule, combination, deny, encode, limit
-from tracker import State, Tracker
+from model.checks import Checks, Options
+from model.limits import CLOSE, CONTAINERS, CREATE, DEVICE, DUP, EXIT, FORK, LABEL, LINK, MAP_BOTH
+from model.limits import MAP_READ, OPEN, PIPE, READ, RENAME, START, TRUNCATE, UNLINK, UNMAP, WRITE
+from model.records import Call, Rule, combination, deny, encode, limit
+from model.tracker import State, Tracker
 
 RUN_B_INPUT = bytes.fromhex(
     "10 0005 0100000000 10 0005 0300050018 10 0005 1300180100"

@@ -7,7 +7,7 @@ new State in its place, so a caller may keep an earlier one.
 from dataclasses import dataclass, field
 from typing import Callable, Dict, FrozenSet, List, NamedTuple, Optional, Set, Tuple, Union
 
-from limits import (
+from model.limits import (
     ACTIONS,
     BROKEN_ALREADY,
     CALL_TAG,
@@ -42,8 +42,8 @@ from limits import (
     READ,
     REFUSAL_ORDER,
     RENAME,
-    RULE_LIMIT,
     RULES_FULL,
+    RULE_LIMIT,
     SAME_TWICE,
     SLICE_SHORT,
     START,
@@ -58,7 +58,7 @@ from limits import (
     WRONG_LENGTH,
     process_container,
 )
-from records import Call, Frame, Rule, decode_call, decode_rule, read_frame
+from model.records import Call, Frame, Rule, decode_call, decode_rule, read_frame
 
 NO_ITEMS: FrozenSet[int] = frozenset()
 

@@ -2,17 +2,16 @@
 
 from typing import Dict, List, NamedTuple, Optional, Tuple
 
-import modelpath  # noqa: F401  (before the modules of the model)
-from changes import Changes, changes_between
-from limits import BROKEN_ALREADY, MAP_BOTH, MAP_READ, READ, RULE_LIMIT, TRUNCATE, WRITE
-from logtext import REFUSAL_WORDS, record_text
-from names import NO_OWN, Own
-from phrases import OBSTACLES, answer_meaning, hop_text, rule_text, sentence
-from provenance import DONE, Moment, Origin, Step, chain, gifts_of
-from reasons import Case, Refusal, broken_places, failed_text, refusal_of
-from records import Call, Rule, encode
-from tracker import ALLOW, Answer, broken_rules, divert, divert_obstacle, judge, load_rule
-from words import Words, joined, numbers_text, plural, short
+from model.limits import BROKEN_ALREADY, MAP_BOTH, MAP_READ, READ, RULE_LIMIT, TRUNCATE, WRITE
+from model.logtext import REFUSAL_WORDS, record_text
+from model.records import Call, Rule, encode
+from model.tracker import ALLOW, Answer, broken_rules, divert, divert_obstacle, judge, load_rule
+from tools.changes import Changes, changes_between
+from tools.names import NO_OWN, Own
+from tools.phrases import OBSTACLES, answer_meaning, hop_text, rule_text, sentence
+from tools.provenance import DONE, Moment, Origin, Step, chain, gifts_of
+from tools.reasons import Case, Refusal, broken_places, failed_text, refusal_of
+from tools.words import Words, joined, numbers_text, plural, short
 
 SHOWN_BYTES = 16  # of a raw value
 GIVING = (READ, WRITE, MAP_READ, MAP_BOTH)

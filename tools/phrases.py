@@ -6,8 +6,7 @@ sort of rule is a line in RULES, a new answer one in ANSWERS.
 
 from typing import Any, Dict
 
-import modelpath  # noqa: F401  (before the modules of the model)
-from limits import (
+from model.limits import (
     CALL_TAG,
     CLOSE,
     COMBINATION_TAG,
@@ -37,11 +36,11 @@ from limits import (
     UNMAP,
     WRITE,
 )
-from logtext import FORMS
-from provenance import Origin
-from records import Call, Rule
-from tracker import Answer, State
-from words import Words, set_words
+from model.logtext import FORMS
+from model.records import Call, Rule
+from model.tracker import Answer, State
+from tools.provenance import Origin
+from tools.words import Words, set_words
 
 
 class Verb:

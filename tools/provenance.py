@@ -7,11 +7,10 @@ a chain that ends at a label and that later records cannot change.
 
 from typing import Any, Dict, Iterator, List, NamedTuple, Optional, Tuple
 
-import modelpath  # noqa: F401  (before the modules of the model)
-from contents import gifts
-from limits import CALL_TAG, CREATE, FORK, PIPE, VALUE_LENGTHS, process_container
-from records import Call, decode_call, decode_rule, read_frame
-from tracker import ALLOW, Answer, State, Tracker, work_out
+from model.contents import gifts
+from model.limits import CALL_TAG, CREATE, FORK, PIPE, VALUE_LENGTHS, process_container
+from model.records import Call, decode_call, decode_rule, read_frame
+from model.tracker import ALLOW, Answer, State, Tracker, work_out
 
 Link = Tuple[int, int]
 MADE = {CREATE: "file", PIPE: "pipe"}  # what the new container of a call is

@@ -9,30 +9,16 @@ use. Who makes the call, what it is done to and which item it is about stay.
 
 from typing import Any, Callable, Dict, List, NamedTuple, Optional, Sequence
 
-import modelpath  # noqa: F401  (before the modules of the model)
-import limits
-from limits import DESCRIPTORS, FILES, HEADER_LENGTH, ITEMS, KINDS, NAMES, PROCESSES
-from limits import RULE_LIMIT, VALUE_LENGTHS
-from logtext import FORMS, Form
-from phrases import WORD_OF_KIND
-from records import Call, Rule, read_frame
-from tracker import (
-    FIELD_RANGES,
-    NEEDS_DESCRIPTOR,
-    NEEDS_NAME,
-    NEW_CONTAINER,
-    NEW_DESCRIPTORS,
-    NEW_NAME,
-    NEW_PROCESS,
-    UNUSED,
-    State,
-    call_refusals,
-    first_refusal,
-    forbids,
-    rule_refusals,
-    substitutes,
-)
-from words import Words, joined, numbers_text, plural, set_words
+from model import limits
+from model.limits import DESCRIPTORS, FILES, HEADER_LENGTH, ITEMS, KINDS, NAMES, PROCESSES
+from model.limits import RULE_LIMIT, VALUE_LENGTHS
+from model.logtext import FORMS, Form
+from model.records import Call, Rule, read_frame
+from model.tracker import FIELD_RANGES, NEEDS_DESCRIPTOR, NEEDS_NAME, NEW_CONTAINER, NEW_DESCRIPTORS
+from model.tracker import NEW_NAME, NEW_PROCESS, UNUSED, State, call_refusals, first_refusal
+from model.tracker import forbids, rule_refusals, substitutes
+from tools.phrases import WORD_OF_KIND
+from tools.words import Words, joined, numbers_text, plural, set_words
 
 RULE_ITEMS = ("first", "second")  # the items of a rule as fields
 ENDS = ("from", "to")  # keys that do not say what they are keys to

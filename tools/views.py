@@ -2,19 +2,12 @@
 
 from typing import Dict, FrozenSet, Iterable, List, NamedTuple, Optional, Set
 
-import modelpath  # noqa: F401  (before the modules of the model)
-from changes import Changes, changes_between
-from limits import (
-    CONTAINERS,
-    DENY_TAG,
-    DEVICES,
-    DIVERT_ACTION,
-    PROCESS_CONTAINERS,
-    process_container,
-)
-from provenance import BREAKING, DONE, Link, Moment, Step, fresh, gifts_of
-from reasons import broken_places
-from tracker import ALLOW, State, forbids
+from model.limits import CONTAINERS, DENY_TAG, DEVICES, DIVERT_ACTION, PROCESS_CONTAINERS
+from model.limits import process_container
+from model.tracker import ALLOW, State, forbids
+from tools.changes import Changes, changes_between
+from tools.provenance import BREAKING, DONE, Link, Moment, Step, fresh, gifts_of
+from tools.reasons import broken_places
 
 
 class View(NamedTuple):

@@ -4,19 +4,19 @@ import subprocess
 import time
 from typing import Dict, List, Tuple
 
-import paths
-from checks import Checks
-from compare import SECONDS, difference, fault_in, model_lines, program_output
-from limits import CALL_TAG, CUT_SHORT, KINDS, LOG_LIMIT, UNKNOWN_TAG, VALUE_LENGTHS
-from logtext import assemble, assemble_line, split_records
-from randomlogs import largest_calls, largest_log, random_log
-from records import frame_bytes
-from shorten import report
-from test_runs import RUN_B_INPUT, RUN_B_OUTPUT
+from model import ROOT
+from model.checks import Checks
+from model.limits import CALL_TAG, CUT_SHORT, KINDS, LOG_LIMIT, UNKNOWN_TAG, VALUE_LENGTHS
+from model.logtext import assemble, assemble_line, split_records
+from model.records import frame_bytes
+from model.test_runs import RUN_B_INPUT, RUN_B_OUTPUT
+from tests.logtests.compare import SECONDS, difference, fault_in, model_lines, program_output
+from tests.logtests.randomlogs import largest_calls, largest_log, random_log
+from tests.logtests.shorten import report
 
-RUNS = paths.ROOT / "tests" / "logtests" / "runs.txt"
+RUNS = ROOT / "tests" / "logtests" / "runs.txt"
 RUN_NAMES = "CDEFGHIJKLMN"
-LOGS = paths.ROOT / "logs"
+LOGS = ROOT / "logs"
 PAUSE = 0.05  # seconds between two pieces of an input
 CUT = f"refused {CUT_SHORT}"
 

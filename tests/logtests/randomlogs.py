@@ -4,26 +4,14 @@ import itertools
 from collections import Counter
 from typing import Callable, List, NamedTuple, Optional
 
-import paths  # noqa: F401  (before the modules of the model)
-from choices import Choices
-from compare import difference, model_lines, program_output
-from generate import MIXES, Generator
-from limits import (
-    CALL_TAG,
-    CONTAINERS,
-    DEVICE,
-    DEVICES,
-    ITEMS,
-    LABEL,
-    LOG_LIMIT,
-    RULE_LIMIT,
-    VALUE_LENGTHS,
-    WRITE,
-    process_container,
-)
-from logtext import split_records
-from records import Call, deny, encode, frame_bytes, read_frame
-from tracker import forbids, frame_refusals
+from model.choices import Choices
+from model.generate import MIXES, Generator
+from model.limits import CALL_TAG, CONTAINERS, DEVICE, DEVICES, ITEMS, LABEL, LOG_LIMIT, RULE_LIMIT
+from model.limits import VALUE_LENGTHS, WRITE, process_container
+from model.logtext import split_records
+from model.records import Call, deny, encode, frame_bytes, read_frame
+from model.tracker import forbids, frame_refusals
+from tests.logtests.compare import difference, model_lines, program_output
 
 # Answers show only what rules judge. So rules are also used to see who holds an item: one against
 # a single holder is refused as broken already, and one against all others is loaded.

@@ -4,21 +4,12 @@ import time
 from itertools import zip_longest
 from typing import Callable, Iterable, Iterator, List, Optional, Tuple
 
-import paths  # noqa: F401  (before the modules of the model)
-from compare import TOO_LONG, fault_in, lines_of, model_lines, program_output
-from limits import (
-    CALL_TAG,
-    COMBINATION_TAG,
-    FILES,
-    HEADER_LENGTH,
-    KINDS,
-    LOG_LIMIT,
-    PROCESS_CONTAINERS,
-    VALUE_LENGTHS,
-)
-from logtext import record_text, split_records
-from proposals import ROLES
-from records import read_frame
+from model.limits import CALL_TAG, COMBINATION_TAG, FILES, HEADER_LENGTH, KINDS, LOG_LIMIT
+from model.limits import PROCESS_CONTAINERS, VALUE_LENGTHS
+from model.logtext import record_text, split_records
+from model.proposals import ROLES
+from model.records import read_frame
+from tests.logtests.compare import TOO_LONG, fault_in, lines_of, model_lines, program_output
 
 Records = List[bytes]
 SECONDS = 60  # for cutting down one log

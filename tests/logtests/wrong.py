@@ -6,7 +6,7 @@ import sys
 from pathlib import Path
 from typing import Dict
 
-import paths
+from model import ROOT
 
 # The lines that replace a part of the model.
 FAULTS: Dict[str, str] = {
@@ -63,9 +63,9 @@ tracker.EFFECTS[EXIT] = exit_process
 
 PROGRAM = """#!{python} -S
 import sys
-sys.path.insert(0, {model!r})
-import tracker
-from limits import EXIT, LOG_LIMIT, TRUNCATE, WRITE
+sys.path.insert(0, {folder!r})
+from model import tracker
+from model.limits import EXIT, LOG_LIMIT, TRUNCATE, WRITE
 {fault}
 log = sys.stdin.buffer.read(LOG_LIMIT + 1)
 if len(log) > LOG_LIMIT:
@@ -75,19 +75,19 @@ else:
 """
 
 
-def copied_model(folder: Path) -> Path:
+def copy_model(folder: Path) -> None:
     """A copy of the model, compiled once, so that a program over it starts quickly."""
     if not folder.is_dir():
         folder.mkdir()
+        (folder / "__init__.py").touch()
         for name in ("limits.py", "records.py", "tracker.py"):
-            shutil.copy(paths.ROOT / "model" / name, folder)
+            shutil.copy(ROOT / "model" / name, folder)
         compileall.compile_dir(str(folder), quiet=1)
-    return folder
 
 
 def make_program(path: Path, fault: str = "") -> str:
     """Write a program that answers as the model, but for a fault."""
-    model = copied_model(path.parent / "model")
-    path.write_text(PROGRAM.format(python=sys.executable, model=str(model), fault=fault))
+    copy_model(path.parent / "model")
+    path.write_text(PROGRAM.format(python=sys.executable, folder=str(path.parent), fault=fault))
     path.chmod(0o755)
     return str(path)

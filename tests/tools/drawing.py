@@ -6,16 +6,16 @@ from pathlib import Path
 from typing import Iterator, List, Set, Tuple
 from xml.etree import ElementTree
 
-from session import LOGS, STORIES, Session, logtool, story_names, story_steps
-import boxes
-import limits
-from draw import dot_text, svg_text
-from logtext import assemble
-from names import NO_OWN
-from page import html_text
-from provenance import Step, steps_of
-from records import Call, combination, deny, encode, limit
-from views import views_of
+from model import limits
+from model.logtext import assemble
+from model.records import Call, combination, deny, encode, limit
+from tests.tools.session import LOGS, STORIES, Session, logtool, story_names, story_steps
+from tools import boxes
+from tools.draw import dot_text, svg_text
+from tools.names import NO_OWN
+from tools.page import html_text
+from tools.provenance import Step, steps_of
+from tools.views import views_of
 
 SVG = "{http://www.w3.org/2000/svg}"
 Area = Tuple[float, float, float, float]  # left, top, right, bottom

@@ -4,14 +4,14 @@ import tempfile
 from pathlib import Path
 from typing import List
 
-from session import LOGS, STORIES, Result, Session, logtool, story_log
-import limits
-from explain import Explanation, explain
-from logtext import assemble
-from phrases import CALLS
-from provenance import steps_of
-from reasons import TESTS
-from wrong import FAULTS, make_program
+from model import limits
+from model.logtext import assemble
+from tests.logtests.wrong import FAULTS, make_program
+from tests.tools.session import LOGS, STORIES, Result, Session, logtool, story_log
+from tools.explain import Explanation, explain
+from tools.phrases import CALLS
+from tools.provenance import steps_of
+from tools.reasons import TESTS
 
 # Short logs that others go on from.
 LIVE = "start 0\n"

@@ -4,12 +4,12 @@ import tempfile
 from pathlib import Path
 from typing import List
 
-from session import LOGS, STORIES, Session, story_log
-from commands import NAMELESS, Ran, environment, inside, run
-from generate import MIXES, generate_records
-from logfiles import is_text
-from logtext import FORMS, disassemble
-from randomlogs import random_log
+from model.generate import MIXES, generate_records
+from model.logfiles import is_text
+from model.logtext import FORMS, disassemble
+from tests.logtests.randomlogs import random_log
+from tests.tools.commands import NAMELESS, Ran, environment, inside, run
+from tests.tools.session import LOGS, STORIES, Session, story_log
 
 SEEDS = range(1, 101)
 

@@ -4,27 +4,27 @@ from collections import Counter
 from typing import Any, Dict, Iterator, List, Optional, Set, Tuple
 from xml.etree import ElementTree
 
-from session import Session, logtool
-import drawing
-import page
-import tracker
-from changes import Changes, changes_between
-from choices import Choices
-from draw import svg_text
-from explain import Explanation, explain
-from limits import BROKEN_ALREADY, CONTAINERS, CUT_SHORT, DENY_TAG, DEVICES, FILES, FORK, KINDS
-from limits import LABEL, MAP_BOTH, MAP_READ, READ, WRITE, process_container
-from logtext import assemble_line
-from names import NO_OWN
-from provenance import DONE, Origin, Step, chain, record_of, steps_of
-from randomlogs import log_generator
-from reasons import Case, Refusal, refusal_of, replaced
-from records import Call, Rule, encode, read_frame
-from report import full_lines
-from scene import Painter, all_contents, make_plan, needed, pair_of
-from tracker import State, Tracker, frame_refusals
-from views import view_at, views_of
-from words import Words
+from model import tracker
+from model.choices import Choices
+from model.limits import BROKEN_ALREADY, CONTAINERS, CUT_SHORT, DENY_TAG, DEVICES, FILES, FORK
+from model.limits import KINDS, LABEL, MAP_BOTH, MAP_READ, READ, WRITE, process_container
+from model.logtext import assemble_line
+from model.records import Call, Rule, encode, read_frame
+from model.tracker import State, Tracker, frame_refusals
+from tests.logtests.randomlogs import log_generator
+from tests.tools import drawing
+from tests.tools.session import Session, logtool
+from tools import page
+from tools.changes import Changes, changes_between
+from tools.draw import svg_text
+from tools.explain import Explanation, explain
+from tools.names import NO_OWN
+from tools.provenance import DONE, Origin, Step, chain, record_of, steps_of
+from tools.reasons import Case, Refusal, refusal_of, replaced
+from tools.report import full_lines
+from tools.scene import Painter, all_contents, make_plan, needed, pair_of
+from tools.views import view_at, views_of
+from tools.words import Words
 
 RECORDS = range(20, 51)  # of a log
 LONG = 300  # of a few logs

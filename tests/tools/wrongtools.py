@@ -4,18 +4,11 @@ import re
 from typing import Any, Callable, Dict, List, Tuple
 from unittest import mock
 
-from session import Session
-import boxes
-import changes
-import draw
-import explain
-import manylogs
-import page
-import provenance
-import reasons
-import views
-from limits import DESCRIPTORS, MISSING, TAKEN
-from reasons import TESTS
+from model.limits import DESCRIPTORS, MISSING, TAKEN
+from tests.tools import manylogs
+from tests.tools.session import Session
+from tools import boxes, changes, draw, explain, page, provenance, reasons, views
+from tools.reasons import TESTS
 
 LOGS = 60  # within which each must be found
 RARE = {"offers what is stopped": 100}  # but for these
