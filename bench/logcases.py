@@ -11,40 +11,8 @@ from typing import Dict, List, NamedTuple
 from bench.states import D_LAST, FILLER, FIRST, FREE, GIVER, HIDDEN, KIND_NAMES, N_LAST, Case
 from bench.states import small_cases, small_laden_cases, worst_cases, worst_laden_cases
 from model.generate import MIXES
-from model.limits import (
-    BROKEN_ALREADY,
-    CALL_TAG,
-    CLOSE,
-    CONTAINERS,
-    CREATE,
-    CUT_SHORT,
-    DEAD_PROCESS,
-    DEVICE,
-    DEVICES,
-    DIVERT_ACTION,
-    EXIT,
-    FILES,
-    ITEMS,
-    LABEL,
-    MISSING,
-    NO_FILE,
-    OUT_OF_RANGE,
-    PROCESSES,
-    READ,
-    RULES_FULL,
-    RULE_LIMIT,
-    SAME_TWICE,
-    START,
-    TAKEN,
-    TRUNCATE,
-    UNKNOWN_KIND,
-    UNKNOWN_TAG,
-    UNLINK,
-    UNMAP,
-    WRITE,
-    WRONG_LENGTH,
-    process_container,
-)
+from model.limits import CALL_TAG, CONTAINERS, DEVICES, DIVERT_ACTION, FILES, ITEMS, PROCESSES
+from model.limits import RULE_LIMIT, Kind, Refusal, process_container
 from model.records import Call, Rule, combination, deny, encode, frame_bytes, limit
 from tests.logtests.compare import model_lines
 from tests.logtests.randomlogs import LogGenerator
@@ -113,15 +81,15 @@ class Place(NamedTuple):
 
 def small_place() -> Place:
     """The small state: the write goes to a file, or else to a device."""
-    case = small_laden_cases()[WRITE]
+    case = small_laden_cases()[Kind.WRITE]
     file, device = FILES[0], DEVICES[3]
     return Place(case.before, case.call, file, device, 0, 1, 1, [], [], PROCESSES[-1], file)
 
 
 def worst_place(case: Case) -> Place:
     """The worst state: the search from the substitute takes as long as that from the file."""
-    label = Call(LABEL, 0, process_container(case.call.process), 0)
-    freeing = [Call(CLOSE, GIVER, D_LAST), Call(UNLINK, GIVER, N_LAST)]
+    label = Call(Kind.LABEL, 0, process_container(case.call.process), 0)
+    freeing = [Call(Kind.CLOSE, GIVER, D_LAST), Call(Kind.UNLINK, GIVER, N_LAST)]
     dead = PROCESSES[5]
     return Place(
         [*case.before, label],
@@ -132,7 +100,7 @@ def worst_place(case: Case) -> Place:
         D_LAST,
         N_LAST,
         freeing,
-        [Call(EXIT, dead)],
+        [Call(Kind.EXIT, dead)],
         dead,
         FILLER,
     )
@@ -140,7 +108,7 @@ def worst_place(case: Case) -> Place:
 
 PLACES: Dict[str, List[Place]] = {
     "small": [small_place()],
-    "worst": [worst_place(case) for case in CASES["worst"][WRITE]],
+    "worst": [worst_place(case) for case in CASES["worst"][Kind.WRITE]],
 }
 INHIBITED = f"write, inhibited by rule {LAST_RULE}"
 DIVERTED = f"write, diverted by rule {LAST_RULE}"
@@ -172,8 +140,8 @@ def rule_cases(place: Place) -> Dict[str, LogCase]:
         "rule, loaded as number 0": LogCase([], place.before, rule, "rule 0"),
         f"rule, loaded as number {LAST_RULE}": LogCase(ALL_BUT_ONE, place.before, rule, last),
         "rule against all containers": LogCase(ALL_BUT_ONE, place.before, wide, last),
-        "rule, 32 are held": refusing(CONFINING, place.before, rule, RULES_FULL),
-        "rule, broken already": refusing(ALL_BUT_ONE, place.before, broken, BROKEN_ALREADY),
+        "rule, 32 are held": refusing(CONFINING, place.before, rule, Refusal.RULES_FULL),
+        "rule, broken already": refusing(ALL_BUT_ONE, place.before, broken, Refusal.BROKEN_ALREADY),
     }
 
 
@@ -185,19 +153,20 @@ def refusing(rules: List[Rule], before: List[Call], record: bytes, number: int) 
 def refused_cases(place: Place) -> Dict[str, LogCase]:
     """A record for each of the other refusals, with 32 rules held."""
     process, descriptor, free = place.process, place.descriptor, place.freeing
-    create = Call(CREATE, process, place.name, descriptor, place.used)
-    device = [*free, Call(DEVICE, process, descriptor, DEVICES[0])]
+    create = Call(Kind.CREATE, process, place.name, descriptor, place.used)
+    dead_read, truncate = Call(Kind.READ, place.dead), Call(Kind.TRUNCATE, process, descriptor)
+    device = [*free, Call(Kind.DEVICE, process, descriptor, DEVICES[0])]
     listed = [
-        ("header cut short", [], bytes([CALL_TAG, 0]), CUT_SHORT),
-        ("unknown tag", [], frame_bytes(0, b""), UNKNOWN_TAG),
-        ("wrong length", [], frame_bytes(CALL_TAG, b""), WRONG_LENGTH),
-        ("unknown kind", [], encode(Call(0)), UNKNOWN_KIND),
-        ("call out of range", [], encode(Call(START, PROCESSES.stop)), OUT_OF_RANGE),
-        ("read of a dead process", place.dying, encode(Call(READ, place.dead)), DEAD_PROCESS),
-        ("create, file in use", free, encode(create), TAKEN),
-        ("unmap, no link", [], encode(Call(UNMAP, process, FREE)), MISSING),
-        ("rule, items equal", [], encode(combination(1, 1)), SAME_TWICE),
-        ("truncate of a device", device, encode(Call(TRUNCATE, process, descriptor)), NO_FILE),
+        ("header cut short", [], bytes([CALL_TAG, 0]), Refusal.CUT_SHORT),
+        ("unknown tag", [], frame_bytes(0, b""), Refusal.UNKNOWN_TAG),
+        ("wrong length", [], frame_bytes(CALL_TAG, b""), Refusal.WRONG_LENGTH),
+        ("unknown kind", [], encode(Call(0)), Refusal.UNKNOWN_KIND),
+        ("call out of range", [], encode(Call(Kind.START, PROCESSES.stop)), Refusal.OUT_OF_RANGE),
+        ("read of a dead process", place.dying, encode(dead_read), Refusal.DEAD_PROCESS),
+        ("create, file in use", free, encode(create), Refusal.TAKEN),
+        ("unmap, no link", [], encode(Call(Kind.UNMAP, process, FREE)), Refusal.MISSING),
+        ("rule, items equal", [], encode(combination(1, 1)), Refusal.SAME_TWICE),
+        ("truncate of a device", device, encode(truncate), Refusal.NO_FILE),
     ]
     return {
         name: refusing(CONFINING, [*place.before, *calls], record, number)

@@ -8,7 +8,7 @@ from bench.logcases import CONFINING, DIVERTED, MIX_NAMES, PLACES, RECORDS, SEED
 from bench.logcases import LogCase, call_cases, mixed_log, stopped_cases
 from bench.programs import BASELINE, IDLE, PROVED, Pair, Program, both, counted, log_before
 from bench.programs import log_cost
-from model.limits import START
+from model.limits import Kind
 from model.logtext import record_text, split_records
 
 TRACED_RULES = TABLE_SIZES[-1]  # of the logs whose every record is looked at
@@ -104,7 +104,7 @@ Profile = Dict[str, Tuple[Counter, int]]  # instructions by function and how man
 def profile_of(program: Program) -> Profile:
     """A random log and some records by function."""
     log = mixed_log(SEEDS[0], PROFILED, TRACED_RULES)
-    starts = [call_cases(rules, "worst", START)[0] for rules in ([], CONFINING)]
+    starts = [call_cases(rules, "worst", Kind.START)[0] for rules in ([], CONFINING)]
     diverted = stopped_cases(PLACES["worst"][0])[DIVERTED]
     return {
         f"Random log, {PROFILED}, {TRACED_RULES} rules": (

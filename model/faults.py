@@ -3,9 +3,8 @@
 from typing import Optional
 
 from model.choices import Choices
-from model.limits import ACTIONS, CALL_TAG, COMBINATION_TAG, CONTAINERS, DENY_TAG, DEVICES, DUP
-from model.limits import ITEMS, KINDS, LIMIT_TAG, LINK, OPEN, PIPE, PROCESSES, RULE_LIMIT, TRUNCATE
-from model.limits import VALUE_LENGTHS
+from model.limits import ACTIONS, CALL_TAG, COMBINATION_TAG, CONTAINERS, DENY_TAG, DEVICES, ITEMS
+from model.limits import KINDS, LIMIT_TAG, PROCESSES, RULE_LIMIT, VALUE_LENGTHS, Kind
 from model.proposals import FIELDS, Proposer
 from model.records import Call, Rule, combination, encode, frame_bytes
 
@@ -64,7 +63,7 @@ class FaultMaker:
 
     def taken_and_missing(self) -> Optional[bytes]:
         """A call whose field a is missing and whose field b is taken."""
-        call = self.proposer.call(self.choices.pick([OPEN, DUP, LINK]))
+        call = self.proposer.call(self.choices.pick([Kind.OPEN, Kind.DUP, Kind.LINK]))
         return encode(self.proposer.flawed(call, "ab", False)) if call else None
 
     def same_twice(self) -> Optional[bytes]:
@@ -73,7 +72,7 @@ class FaultMaker:
             action, substitute = self.proposer.action()
             item = self.proposer.item()
             return encode(combination(item, item, action, substitute))
-        call = self.proposer.call(PIPE)
+        call = self.proposer.call(Kind.PIPE)
         if call is None:
             return None
         if self.choices.chance(0.4):
@@ -86,7 +85,7 @@ class FaultMaker:
         found = sorted(key for key, container in descriptors.items() if container in DEVICES)
         if not found:
             return None
-        return encode(Call(TRUNCATE, *self.choices.pick(found)))
+        return encode(Call(Kind.TRUNCATE, *self.choices.pick(found)))
 
     def flawed_rule(self) -> Optional[bytes]:
         """A rule with a wrong action, item or substitute, or several of them."""

@@ -3,41 +3,9 @@
 from typing import Dict, Iterable, List, Optional, Tuple
 
 from model.choices import Choices
-from model.limits import (
-    ACTIONS,
-    CLOSE,
-    COMBINATION_TAG,
-    CONTAINERS,
-    CREATE,
-    DENY_TAG,
-    DESCRIPTORS,
-    DEVICE,
-    DEVICES,
-    DIVERT_ACTION,
-    DUP,
-    EXIT,
-    FILES,
-    FORK,
-    INHIBIT_ACTION,
-    ITEMS,
-    LABEL,
-    LIMIT_TAG,
-    LINK,
-    MAP_BOTH,
-    MAP_READ,
-    NAMES,
-    OPEN,
-    PIPE,
-    PROCESSES,
-    READ,
-    RENAME,
-    START,
-    TRUNCATE,
-    UNLINK,
-    UNMAP,
-    WRITE,
-    process_container,
-)
+from model.limits import ACTIONS, COMBINATION_TAG, CONTAINERS, DENY_TAG, DESCRIPTORS, DEVICES
+from model.limits import DIVERT_ACTION, FILES, INHIBIT_ACTION, ITEMS, LIMIT_TAG, NAMES, PROCESSES
+from model.limits import Kind, process_container
 from model.records import Call, Rule, combination, deny, limit
 from model.tracker import FIELD_RANGES, State, Tracker, substitutes
 
@@ -45,25 +13,25 @@ FIELDS = Call._fields[1:]
 
 # What each field of a call names in the present state.
 ROLES: Dict[int, Tuple[str, str, str, str]] = {
-    START: ("dead process", "zero", "zero", "zero"),
-    OPEN: ("live process", "bound name", "closed descriptor", "zero"),
-    CREATE: ("live process", "unbound name", "closed descriptor", "unused file"),
-    PIPE: ("live process", "closed descriptor", "closed descriptor", "unused file"),
-    DEVICE: ("live process", "closed descriptor", "device", "zero"),
-    DUP: ("live process", "open descriptor", "closed descriptor", "zero"),
-    CLOSE: ("live process", "open descriptor", "zero", "zero"),
-    READ: ("live process", "open descriptor", "zero", "zero"),
-    WRITE: ("live process", "open descriptor", "zero", "zero"),
-    TRUNCATE: ("live process", "file descriptor", "zero", "zero"),
-    MAP_READ: ("live process", "open descriptor", "zero", "zero"),
-    MAP_BOTH: ("live process", "open descriptor", "zero", "zero"),
-    UNMAP: ("live process", "mapped container", "zero", "zero"),
-    UNLINK: ("live process", "bound name", "zero", "zero"),
-    RENAME: ("live process", "bound name", "any name", "zero"),
-    LINK: ("live process", "bound name", "unbound name", "zero"),
-    FORK: ("live process", "dead process", "zero", "zero"),
-    EXIT: ("live process", "zero", "zero", "zero"),
-    LABEL: ("zero", "used container", "item", "zero"),
+    Kind.START: ("dead process", "zero", "zero", "zero"),
+    Kind.OPEN: ("live process", "bound name", "closed descriptor", "zero"),
+    Kind.CREATE: ("live process", "unbound name", "closed descriptor", "unused file"),
+    Kind.PIPE: ("live process", "closed descriptor", "closed descriptor", "unused file"),
+    Kind.DEVICE: ("live process", "closed descriptor", "device", "zero"),
+    Kind.DUP: ("live process", "open descriptor", "closed descriptor", "zero"),
+    Kind.CLOSE: ("live process", "open descriptor", "zero", "zero"),
+    Kind.READ: ("live process", "open descriptor", "zero", "zero"),
+    Kind.WRITE: ("live process", "open descriptor", "zero", "zero"),
+    Kind.TRUNCATE: ("live process", "file descriptor", "zero", "zero"),
+    Kind.MAP_READ: ("live process", "open descriptor", "zero", "zero"),
+    Kind.MAP_BOTH: ("live process", "open descriptor", "zero", "zero"),
+    Kind.UNMAP: ("live process", "mapped container", "zero", "zero"),
+    Kind.UNLINK: ("live process", "bound name", "zero", "zero"),
+    Kind.RENAME: ("live process", "bound name", "any name", "zero"),
+    Kind.LINK: ("live process", "bound name", "unbound name", "zero"),
+    Kind.FORK: ("live process", "dead process", "zero", "zero"),
+    Kind.EXIT: ("live process", "zero", "zero", "zero"),
+    Kind.LABEL: ("zero", "used container", "item", "zero"),
 }
 
 
@@ -150,7 +118,7 @@ class Proposer:
         values = [process]
         for role in ROLES[kind][1:]:
             fitting = self.fitting(role, process)
-            if kind == PIPE and role == "closed descriptor":
+            if kind == Kind.PIPE and role == "closed descriptor":
                 fitting = [d for d in fitting if d not in values[1:]]
             if not fitting:
                 return None

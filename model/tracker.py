@@ -7,57 +7,9 @@ new State in its place, so a caller may keep an earlier one.
 from dataclasses import dataclass, field
 from typing import Callable, Dict, FrozenSet, List, NamedTuple, Optional, Set, Tuple, Union
 
-from model.limits import (
-    ACTIONS,
-    BROKEN_ALREADY,
-    CALL_TAG,
-    CLOSE,
-    COMBINATION_TAG,
-    CONTAINERS,
-    CREATE,
-    CUT_SHORT,
-    DEAD_PROCESS,
-    DENY_TAG,
-    DESCRIPTORS,
-    DEVICE,
-    DEVICES,
-    DIVERT_ACTION,
-    DUP,
-    EXIT,
-    FILES,
-    FORK,
-    ITEMS,
-    KINDS,
-    LABEL,
-    LINK,
-    MAP_BOTH,
-    MAP_READ,
-    MISSING,
-    NAMES,
-    NO_FILE,
-    OPEN,
-    OUT_OF_RANGE,
-    PIPE,
-    PROCESSES,
-    READ,
-    REFUSAL_ORDER,
-    RENAME,
-    RULES_FULL,
-    RULE_LIMIT,
-    SAME_TWICE,
-    SLICE_SHORT,
-    START,
-    TAKEN,
-    TRUNCATE,
-    UNKNOWN_KIND,
-    UNKNOWN_TAG,
-    UNLINK,
-    UNMAP,
-    VALUE_LENGTHS,
-    WRITE,
-    WRONG_LENGTH,
-    process_container,
-)
+from model.limits import ACTIONS, CALL_TAG, COMBINATION_TAG, CONTAINERS, DENY_TAG, DESCRIPTORS
+from model.limits import DEVICES, DIVERT_ACTION, FILES, ITEMS, KINDS, NAMES, PROCESSES
+from model.limits import RULE_LIMIT, VALUE_LENGTHS, Kind, Refusal, process_container
 from model.records import Call, Frame, Rule, decode_call, decode_rule, read_frame
 
 NO_ITEMS: FrozenSet[int] = frozenset()
@@ -76,9 +28,9 @@ class Answer(NamedTuple):
 ALLOW = Answer("allow")
 
 
-def refused(number: int) -> Answer:
+def refused(refusal: Refusal) -> Answer:
     """The answer of a refusal."""
-    return Answer("refused", (number,))
+    return Answer("refused", (refusal,))
 
 
 @dataclass
@@ -268,25 +220,25 @@ def _label(state: State, call: Call) -> None:
 
 
 EFFECTS: Dict[int, Callable[[State, Call], None]] = {
-    START: _start,
-    OPEN: _open,
-    CREATE: _create,
-    PIPE: _pipe,
-    DEVICE: _device,
-    DUP: _dup,
-    CLOSE: _close,
-    READ: _read,
-    WRITE: _write,
-    TRUNCATE: _truncate,
-    MAP_READ: _map_read,
-    MAP_BOTH: _map_both,
-    UNMAP: _unmap,
-    UNLINK: _unlink,
-    RENAME: _rename,
-    LINK: _link,
-    FORK: _fork,
-    EXIT: _exit,
-    LABEL: _label,
+    Kind.START: _start,
+    Kind.OPEN: _open,
+    Kind.CREATE: _create,
+    Kind.PIPE: _pipe,
+    Kind.DEVICE: _device,
+    Kind.DUP: _dup,
+    Kind.CLOSE: _close,
+    Kind.READ: _read,
+    Kind.WRITE: _write,
+    Kind.TRUNCATE: _truncate,
+    Kind.MAP_READ: _map_read,
+    Kind.MAP_BOTH: _map_both,
+    Kind.UNMAP: _unmap,
+    Kind.UNLINK: _unlink,
+    Kind.RENAME: _rename,
+    Kind.LINK: _link,
+    Kind.FORK: _fork,
+    Kind.EXIT: _exit,
+    Kind.LABEL: _label,
 }
 
 
@@ -302,39 +254,53 @@ def work_out(state: State, call: Call) -> State:
 
 UNUSED = range(0, 1)
 FIELD_RANGES: Dict[int, Tuple[range, range, range, range]] = {
-    START: (PROCESSES, UNUSED, UNUSED, UNUSED),
-    OPEN: (PROCESSES, NAMES, DESCRIPTORS, UNUSED),
-    CREATE: (PROCESSES, NAMES, DESCRIPTORS, FILES),
-    PIPE: (PROCESSES, DESCRIPTORS, DESCRIPTORS, FILES),
-    DEVICE: (PROCESSES, DESCRIPTORS, DEVICES, UNUSED),
-    DUP: (PROCESSES, DESCRIPTORS, DESCRIPTORS, UNUSED),
-    CLOSE: (PROCESSES, DESCRIPTORS, UNUSED, UNUSED),
-    READ: (PROCESSES, DESCRIPTORS, UNUSED, UNUSED),
-    WRITE: (PROCESSES, DESCRIPTORS, UNUSED, UNUSED),
-    TRUNCATE: (PROCESSES, DESCRIPTORS, UNUSED, UNUSED),
-    MAP_READ: (PROCESSES, DESCRIPTORS, UNUSED, UNUSED),
-    MAP_BOTH: (PROCESSES, DESCRIPTORS, UNUSED, UNUSED),
-    UNMAP: (PROCESSES, CONTAINERS, UNUSED, UNUSED),
-    UNLINK: (PROCESSES, NAMES, UNUSED, UNUSED),
-    RENAME: (PROCESSES, NAMES, NAMES, UNUSED),
-    LINK: (PROCESSES, NAMES, NAMES, UNUSED),
-    FORK: (PROCESSES, PROCESSES, UNUSED, UNUSED),
-    EXIT: (PROCESSES, UNUSED, UNUSED, UNUSED),
-    LABEL: (UNUSED, CONTAINERS, ITEMS, UNUSED),
+    Kind.START: (PROCESSES, UNUSED, UNUSED, UNUSED),
+    Kind.OPEN: (PROCESSES, NAMES, DESCRIPTORS, UNUSED),
+    Kind.CREATE: (PROCESSES, NAMES, DESCRIPTORS, FILES),
+    Kind.PIPE: (PROCESSES, DESCRIPTORS, DESCRIPTORS, FILES),
+    Kind.DEVICE: (PROCESSES, DESCRIPTORS, DEVICES, UNUSED),
+    Kind.DUP: (PROCESSES, DESCRIPTORS, DESCRIPTORS, UNUSED),
+    Kind.CLOSE: (PROCESSES, DESCRIPTORS, UNUSED, UNUSED),
+    Kind.READ: (PROCESSES, DESCRIPTORS, UNUSED, UNUSED),
+    Kind.WRITE: (PROCESSES, DESCRIPTORS, UNUSED, UNUSED),
+    Kind.TRUNCATE: (PROCESSES, DESCRIPTORS, UNUSED, UNUSED),
+    Kind.MAP_READ: (PROCESSES, DESCRIPTORS, UNUSED, UNUSED),
+    Kind.MAP_BOTH: (PROCESSES, DESCRIPTORS, UNUSED, UNUSED),
+    Kind.UNMAP: (PROCESSES, CONTAINERS, UNUSED, UNUSED),
+    Kind.UNLINK: (PROCESSES, NAMES, UNUSED, UNUSED),
+    Kind.RENAME: (PROCESSES, NAMES, NAMES, UNUSED),
+    Kind.LINK: (PROCESSES, NAMES, NAMES, UNUSED),
+    Kind.FORK: (PROCESSES, PROCESSES, UNUSED, UNUSED),
+    Kind.EXIT: (PROCESSES, UNUSED, UNUSED, UNUSED),
+    Kind.LABEL: (UNUSED, CONTAINERS, ITEMS, UNUSED),
 }
 
 # Row 7, taken: the fields that must name something free.
-NEW_PROCESS = {START: "process", FORK: "a"}
-NEW_DESCRIPTORS = {OPEN: "b", CREATE: "b", PIPE: "ab", DEVICE: "a", DUP: "b"}
-NEW_NAME = {CREATE: "a", LINK: "b"}
-NEW_CONTAINER = {CREATE: "c", PIPE: "c"}
+NEW_PROCESS = {Kind.START: "process", Kind.FORK: "a"}
+NEW_DESCRIPTORS = {
+    Kind.OPEN: "b",
+    Kind.CREATE: "b",
+    Kind.PIPE: "ab",
+    Kind.DEVICE: "a",
+    Kind.DUP: "b",
+}
+NEW_NAME = {Kind.CREATE: "a", Kind.LINK: "b"}
+NEW_CONTAINER = {Kind.CREATE: "c", Kind.PIPE: "c"}
 
 # Row 8, missing: the kinds whose field a must name something present.
-NEEDS_DESCRIPTOR = (DUP, CLOSE, READ, WRITE, TRUNCATE, MAP_READ, MAP_BOTH)
-NEEDS_NAME = (OPEN, UNLINK, RENAME, LINK)
+NEEDS_DESCRIPTOR = (
+    Kind.DUP,
+    Kind.CLOSE,
+    Kind.READ,
+    Kind.WRITE,
+    Kind.TRUNCATE,
+    Kind.MAP_READ,
+    Kind.MAP_BOTH,
+)
+NEEDS_NAME = (Kind.OPEN, Kind.UNLINK, Kind.RENAME, Kind.LINK)
 
 # Row 6, dead process: the kinds without a calling process.
-NEEDS_NO_CALLER = (START, LABEL)
+NEEDS_NO_CALLER = (Kind.START, Kind.LABEL)
 
 
 def is_taken(state: State, call: Call) -> bool:
@@ -356,28 +322,28 @@ def is_missing(state: State, call: Call) -> bool:
         return (call.process, call.a) not in state.descriptors
     if call.kind in NEEDS_NAME:
         return call.a not in state.names
-    if call.kind == UNMAP:
+    if call.kind == Kind.UNMAP:
         return not {(call.a, call.caller), (call.caller, call.a)} & state.links
-    return call.kind == LABEL and call.a not in state.used()
+    return call.kind == Kind.LABEL and call.a not in state.used()
 
 
-def call_refusals(state: State, call: Call) -> Set[int]:
+def call_refusals(state: State, call: Call) -> Set[Refusal]:
     """The refusals that apply to a call."""
     if call.kind not in KINDS:
-        return {UNKNOWN_KIND}
+        return {Refusal.UNKNOWN_KIND}
     found = set()
     if any(value not in allowed for value, allowed in zip(call[1:], FIELD_RANGES[call.kind])):
-        found.add(OUT_OF_RANGE)
+        found.add(Refusal.OUT_OF_RANGE)
     if call.kind not in NEEDS_NO_CALLER and call.process not in state.live:
-        found.add(DEAD_PROCESS)
+        found.add(Refusal.DEAD_PROCESS)
     if is_taken(state, call):
-        found.add(TAKEN)
+        found.add(Refusal.TAKEN)
     if is_missing(state, call):
-        found.add(MISSING)
-    if call.kind == PIPE and call.a == call.b:
-        found.add(SAME_TWICE)
-    if call.kind == TRUNCATE and state.descriptors.get((call.process, call.a)) in DEVICES:
-        found.add(NO_FILE)
+        found.add(Refusal.MISSING)
+    if call.kind == Kind.PIPE and call.a == call.b:
+        found.add(Refusal.SAME_TWICE)
+    if call.kind == Kind.TRUNCATE and state.descriptors.get((call.process, call.a)) in DEVICES:
+        found.add(Refusal.NO_FILE)
     return found
 
 
@@ -386,38 +352,38 @@ def substitutes(action: int) -> Set[int]:
     return {*DEVICES, *FILES} if action == DIVERT_ACTION else {0}
 
 
-def rule_refusals(state: State, rule: Rule) -> Set[int]:
+def rule_refusals(state: State, rule: Rule) -> Set[Refusal]:
     """The refusals that apply to a rule."""
     found = set()
     if rule.action not in ACTIONS:
-        found.add(UNKNOWN_KIND)
+        found.add(Refusal.UNKNOWN_KIND)
     if rule.substitute not in substitutes(rule.action) or not set(rule.items) <= set(ITEMS):
-        found.add(OUT_OF_RANGE)
+        found.add(Refusal.OUT_OF_RANGE)
     if rule.tag == COMBINATION_TAG and rule.items[0] == rule.items[1]:
-        found.add(SAME_TWICE)
+        found.add(Refusal.SAME_TWICE)
     if len(state.rules) >= RULE_LIMIT:
-        found.add(RULES_FULL)
+        found.add(Refusal.RULES_FULL)
     if is_broken(state, rule):
-        found.add(BROKEN_ALREADY)
+        found.add(Refusal.BROKEN_ALREADY)
     return found
 
 
-def frame_refusals(state: State, frame: Optional[Frame]) -> Set[int]:
+def frame_refusals(state: State, frame: Optional[Frame]) -> Set[Refusal]:
     """The refusals that apply to a measured record."""
     if frame is None:
-        return {CUT_SHORT}
+        return {Refusal.CUT_SHORT}
     if frame.tag not in VALUE_LENGTHS:
-        return {UNKNOWN_TAG}
+        return {Refusal.UNKNOWN_TAG}
     if len(frame.value) != VALUE_LENGTHS[frame.tag]:
-        return {WRONG_LENGTH}
+        return {Refusal.WRONG_LENGTH}
     if frame.tag == CALL_TAG:
         return call_refusals(state, decode_call(frame.value))
     return rule_refusals(state, decode_rule(frame.tag, frame.value))
 
 
-def first_refusal(numbers: Set[int]) -> int:
+def first_refusal(numbers: Set[Refusal]) -> Refusal:
     """The one number that is answered when several apply."""
-    return next(number for number in REFUSAL_ORDER if number in numbers)
+    return next(number for number in Refusal if number in numbers)
 
 
 # Rules and verdicts: document 01, What a record gets.
@@ -460,7 +426,7 @@ def divert_obstacle(state: State, call: Call, rule: Rule) -> Optional[str]:
     """Why a call that breaks this rule cannot be diverted; None if it can."""
     if rule.action != DIVERT_ACTION:
         return "action inhibits"
-    if call.kind != WRITE:
+    if call.kind != Kind.WRITE:
         return "not a write"
     if rule.substitute not in state.used():
         return "substitute not in use"
@@ -521,15 +487,15 @@ class Tracker:
     def query_items(self, container: int) -> Union[int, Answer]:
         """The items of a container as a 64-bit set, or a refusal."""
         if container not in CONTAINERS:
-            return refused(OUT_OF_RANGE)
+            return refused(Refusal.OUT_OF_RANGE)
         return sum(1 << item for item in self.state.items[container])
 
     def query_holders(self, item: int, lent: List[int]) -> Union[int, Answer]:
         """Put an item's holders at the front of a lent list; answer how many."""
         if item not in ITEMS:
-            return refused(OUT_OF_RANGE)
+            return refused(Refusal.OUT_OF_RANGE)
         holders = self.state.holders(item)
         if len(lent) < len(holders):
-            return refused(SLICE_SHORT)
+            return refused(Refusal.SLICE_SHORT)
         lent[: len(holders)] = holders
         return len(holders)

@@ -6,36 +6,8 @@ sort of rule is a line in RULES, a new answer one in ANSWERS.
 
 from typing import Any, Dict
 
-from model.limits import (
-    CALL_TAG,
-    CLOSE,
-    COMBINATION_TAG,
-    CREATE,
-    DENY_TAG,
-    DEVICE,
-    DEVICES,
-    DIVERT_ACTION,
-    DUP,
-    EXIT,
-    FORK,
-    INHIBIT_ACTION,
-    KINDS,
-    LABEL,
-    LIMIT_TAG,
-    LINK,
-    MAP_BOTH,
-    MAP_READ,
-    OPEN,
-    PIPE,
-    PROCESS_CONTAINERS,
-    READ,
-    RENAME,
-    START,
-    TRUNCATE,
-    UNLINK,
-    UNMAP,
-    WRITE,
-)
+from model.limits import CALL_TAG, COMBINATION_TAG, DENY_TAG, DEVICES, DIVERT_ACTION, INHIBIT_ACTION
+from model.limits import KINDS, LIMIT_TAG, PROCESS_CONTAINERS, Kind
 from model.logtext import FORMS
 from model.records import Call, Rule
 from model.tracker import Answer, State
@@ -62,36 +34,37 @@ def verbs(done: bool) -> Dict[str, Verb]:
 
 # A call. {through} is descriptor a and where it leads before the call; {through_on} goes on.
 CALLS: Dict[int, str] = {
-    START: "{process} {do:starts/start}",
-    OPEN: "{process} {do:opens/open} {name_a} as descriptor {b}",
-    CREATE: "{process} {do:creates/create} {name_a} as a new file, container {c}, open as "
+    Kind.START: "{process} {do:starts/start}",
+    Kind.OPEN: "{process} {do:opens/open} {name_a} as descriptor {b}",
+    Kind.CREATE: "{process} {do:creates/create} {name_a} as a new file, container {c}, open as "
     "descriptor {b}",
-    PIPE: "{process} {do:makes/make} a new pipe, container {c}, open as descriptors {a} and {b}",
-    DEVICE: "{process} {do:opens/open} {device_b} as descriptor {a}",
-    DUP: "{process} {do:copies/copy} {through_on} to descriptor {b}",
-    CLOSE: "{process} {do:closes/close} {through}",
-    READ: "{process} {do:reads/read} from {through}",
-    WRITE: "{process} {do:writes/write} to {through}",
-    TRUNCATE: "{process} {do:truncates/truncate} {through}",
-    MAP_READ: "{process} {do:maps/map} {through}, to read",
-    MAP_BOTH: "{process} {do:maps/map} {through}, both ways",
-    UNMAP: "{process} {do:unmaps/unmap} {container_a}",
-    UNLINK: "{process} {do:unlinks/unlink} {name_a}",
-    RENAME: "{process} {do:renames/rename} {name_a} to {name_b}",
-    LINK: "{process} {do:makes/make} {name_b} lead where {name_a} leads",
-    FORK: "{process} {do:forks/fork} {child}",
-    EXIT: "{process} {do:exits/exit}",
-    LABEL: "{item_b} {do:comes/come} in from outside and {also:is/be} given to {container_a}",
+    Kind.PIPE: "{process} {do:makes/make} a new pipe, container {c}, open as descriptors {a} and "
+    "{b}",
+    Kind.DEVICE: "{process} {do:opens/open} {device_b} as descriptor {a}",
+    Kind.DUP: "{process} {do:copies/copy} {through_on} to descriptor {b}",
+    Kind.CLOSE: "{process} {do:closes/close} {through}",
+    Kind.READ: "{process} {do:reads/read} from {through}",
+    Kind.WRITE: "{process} {do:writes/write} to {through}",
+    Kind.TRUNCATE: "{process} {do:truncates/truncate} {through}",
+    Kind.MAP_READ: "{process} {do:maps/map} {through}, to read",
+    Kind.MAP_BOTH: "{process} {do:maps/map} {through}, both ways",
+    Kind.UNMAP: "{process} {do:unmaps/unmap} {container_a}",
+    Kind.UNLINK: "{process} {do:unlinks/unlink} {name_a}",
+    Kind.RENAME: "{process} {do:renames/rename} {name_a} to {name_b}",
+    Kind.LINK: "{process} {do:makes/make} {name_b} lead where {name_a} leads",
+    Kind.FORK: "{process} {do:forks/fork} {child}",
+    Kind.EXIT: "{process} {do:exits/exit}",
+    Kind.LABEL: "{item_b} {do:comes/come} in from outside and {also:is/be} given to {container_a}",
 }
 
 # How an item gets on by a call.
 HOPS: Dict[int, str] = {
-    READ: "{target} {do:reads/read} it from {giver}",
-    WRITE: "{giver} {do:writes/write} it to {target}",
-    MAP_READ: "{target} {do:maps/map} {giver} to read",
-    MAP_BOTH: "{process} {do:maps/map} {mapped} both ways",
-    FORK: "{target} {do:is/be} forked from {giver}",
-    LABEL: "it {do:comes/come} in from outside, by a label of {target}",
+    Kind.READ: "{target} {do:reads/read} it from {giver}",
+    Kind.WRITE: "{giver} {do:writes/write} it to {target}",
+    Kind.MAP_READ: "{target} {do:maps/map} {giver} to read",
+    Kind.MAP_BOTH: "{process} {do:maps/map} {mapped} both ways",
+    Kind.FORK: "{target} {do:is/be} forked from {giver}",
+    Kind.LABEL: "it {do:comes/come} in from outside, by a label of {target}",
 }
 DIVERTED = "{giver} writes it, and rule {rule} diverts the write to {target}"
 

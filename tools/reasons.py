@@ -11,7 +11,7 @@ from typing import Any, Callable, Dict, List, NamedTuple, Optional, Sequence
 
 from model import limits
 from model.limits import DESCRIPTORS, FILES, HEADER_LENGTH, ITEMS, KINDS, NAMES, PROCESSES
-from model.limits import RULE_LIMIT, VALUE_LENGTHS
+from model.limits import RULE_LIMIT, VALUE_LENGTHS, Kind, Refusal
 from model.logtext import FORMS, Form
 from model.records import Call, Rule, read_frame
 from model.tracker import FIELD_RANGES, NEEDS_DESCRIPTOR, NEEDS_NAME, NEW_CONTAINER, NEW_DESCRIPTORS
@@ -48,13 +48,13 @@ class Case(NamedTuple):
         return self.state.descriptors.get((self.record.process, descriptor))
 
 
-class Refusal(NamedTuple):
+class Reason(NamedTuple):
     """A refusal, and what becomes of the record once its tests are passed."""
 
     number: int
     failed: List[Failed]
     mended: Any  # the record as it was meant, with these tests passed; None if there is none
-    then: Optional["Refusal"]  # what the mended record is refused with
+    then: Optional["Reason"]  # what the mended record is refused with
 
 
 def refusal_number(state: State, record: Any) -> Optional[int]:
@@ -252,7 +252,7 @@ def missing_descriptor(case: Case) -> List[Failed]:
     call = case.record
     owner = case.words.process(call.process)
     text = f"descriptor {call.a} of {owner} is closed"
-    files = call.kind == limits.TRUNCATE
+    files = call.kind == Kind.TRUNCATE
     kept = FILES if files else limits.CONTAINERS
     opened = [d for d in DESCRIPTORS if case.leads(d) in kept]
     fitting = "open one{s} with a file or pipe" if files else "open one{s}"
@@ -269,7 +269,7 @@ def missing(case: Case) -> List[Failed]:
         text = f"{words.name(call.a)} is unbound"
         none = "no name is bound: create a file first"
         return [Failed(text, "a", sorted(state.names), "bound one{s}", none)]
-    if call.kind == limits.UNMAP:
+    if call.kind == Kind.UNMAP:
         owner = words.process(call.process)
         text = f"there is no link between {owner} and {words.container(call.a)}"
         ends = {end for link in state.links if call.caller in link for end in link}
@@ -342,18 +342,18 @@ def broken_already(case: Case) -> List[Failed]:
 
 
 TESTS: Dict[int, Callable[[Case], List[Failed]]] = {
-    limits.CUT_SHORT: cut_short,
-    limits.UNKNOWN_TAG: unknown_tag,
-    limits.WRONG_LENGTH: wrong_length,
-    limits.UNKNOWN_KIND: unknown_kind,
-    limits.OUT_OF_RANGE: out_of_range,
-    limits.DEAD_PROCESS: dead_process,
-    limits.TAKEN: taken,
-    limits.MISSING: missing,
-    limits.SAME_TWICE: same_twice,
-    limits.NO_FILE: no_file,
-    limits.RULES_FULL: rules_full,
-    limits.BROKEN_ALREADY: broken_already,
+    Refusal.CUT_SHORT: cut_short,
+    Refusal.UNKNOWN_TAG: unknown_tag,
+    Refusal.WRONG_LENGTH: wrong_length,
+    Refusal.UNKNOWN_KIND: unknown_kind,
+    Refusal.OUT_OF_RANGE: out_of_range,
+    Refusal.DEAD_PROCESS: dead_process,
+    Refusal.TAKEN: taken,
+    Refusal.MISSING: missing,
+    Refusal.SAME_TWICE: same_twice,
+    Refusal.NO_FILE: no_file,
+    Refusal.RULES_FULL: rules_full,
+    Refusal.BROKEN_ALREADY: broken_already,
 }
 
 
@@ -374,16 +374,16 @@ def mend(case: Case, failed: List[Failed]) -> Any:
 
 def is_same_pipe(record: Any) -> bool:
     """Whether a record is a pipe whose two descriptors are one."""
-    return isinstance(record, Call) and record.kind == limits.PIPE and record.a == record.b
+    return isinstance(record, Call) and record.kind == Kind.PIPE and record.a == record.b
 
 
-def refusal_of(case: Case, number: int) -> Refusal:
+def reason_of(case: Case, number: int) -> Reason:
     """The refusal with a number, taken apart."""
     failed = TESTS[number](case)
     mended = mend(case, failed)
     then = refusal_number(case.state, mended) if mended is not None else None
-    following = refusal_of(case._replace(record=mended), then) if then is not None else None
-    return Refusal(number, failed, mended, following)
+    following = reason_of(case._replace(record=mended), then) if then is not None else None
+    return Reason(number, failed, mended, following)
 
 
 def failed_text(test: Failed) -> str:

@@ -6,8 +6,8 @@ from typing import Callable, List, NamedTuple, Optional
 
 from model.choices import Choices
 from model.generate import MIXES, Generator
-from model.limits import CALL_TAG, CONTAINERS, DEVICE, DEVICES, ITEMS, LABEL, LOG_LIMIT, RULE_LIMIT
-from model.limits import VALUE_LENGTHS, WRITE, process_container
+from model.limits import CALL_TAG, CONTAINERS, DEVICES, ITEMS, LOG_LIMIT, RULE_LIMIT, VALUE_LENGTHS
+from model.limits import Kind, process_container
 from model.logtext import split_records
 from model.records import Call, deny, encode, frame_bytes, read_frame
 from model.tracker import forbids, frame_refusals
@@ -60,9 +60,9 @@ class LogGenerator(Generator):
             return []
         descriptor = self.choices.near(closed)
         return [
-            Call(LABEL, 0, process_container(process), rule.items[0]),
-            Call(DEVICE, process, descriptor, self.choices.pick(forbidden)),
-            Call(WRITE, process, descriptor),
+            Call(Kind.LABEL, 0, process_container(process), rule.items[0]),
+            Call(Kind.DEVICE, process, descriptor, self.choices.pick(forbidden)),
+            Call(Kind.WRITE, process, descriptor),
         ]
 
     def _held_probe(self) -> Optional[bytes]:
@@ -80,7 +80,7 @@ class LogGenerator(Generator):
         held = sorted(set().union(*state.items.values()))
         new = [item for item in ITEMS if item not in held]
         used = sorted(state.used())
-        labels = [Call(LABEL, 0, self.choices.pick(used), item) for item in new[:TAIL_LABELS]]
+        labels = [Call(Kind.LABEL, 0, self.choices.pick(used), item) for item in new[:TAIL_LABELS]]
         records = [self._answered(encode(label)) for label in labels]
         shown = [*new[:TAIL_LABELS], *held]
         while shown and len(records) < TAIL:

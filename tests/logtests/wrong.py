@@ -23,14 +23,14 @@ tracker.State.reach = reach
     "empties a truncated file that is mapped": """
 def truncate(state, call):
     state.items[state.descriptors[call.process, call.a]] = frozenset()
-tracker.EFFECTS[TRUNCATE] = truncate
+tracker.EFFECTS[Kind.TRUNCATE] = truncate
 """,
     "tests rules against the written container only": """
 right_work_out = tracker.work_out
 right_broken_rules = tracker.broken_rules
 def judge_written(state, call):
     after = right_work_out(state, call)
-    if call.kind == WRITE:
+    if call.kind == Kind.WRITE:
         seen = state.copy()
         written = state.descriptors[call.process, call.a]
         seen.items[written] = after.items[written]
@@ -52,12 +52,12 @@ def divert_obstacle(state, call, rule):
 tracker.divert_obstacle = divert_obstacle
 """,
     "leaves a dead process's links": """
-right_exit = tracker.EFFECTS[EXIT]
+right_exit = tracker.EFFECTS[Kind.EXIT]
 def exit_process(state, call):
     links = state.links
     right_exit(state, call)
     state.links = links
-tracker.EFFECTS[EXIT] = exit_process
+tracker.EFFECTS[Kind.EXIT] = exit_process
 """,
 }
 
@@ -65,7 +65,7 @@ PROGRAM = """#!{python} -S
 import sys
 sys.path.insert(0, {folder!r})
 from model import tracker
-from model.limits import EXIT, LOG_LIMIT, TRUNCATE, WRITE
+from model.limits import LOG_LIMIT, Kind
 {fault}
 log = sys.stdin.buffer.read(LOG_LIMIT + 1)
 if len(log) > LOG_LIMIT:

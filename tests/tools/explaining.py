@@ -4,7 +4,7 @@ import tempfile
 from pathlib import Path
 from typing import List
 
-from model import limits
+from model.limits import KINDS, RECORD_REFUSALS
 from model.logtext import assemble
 from tests.logtests.wrong import FAULTS, make_program
 from tests.tools.session import LOGS, STORIES, Result, Session, logtool, story_log
@@ -460,10 +460,9 @@ def test_fixed_logs(session: Session) -> None:
         for log, parts in table:
             check_parts(session, name, log, parts)
     kinds = {assemble(log.splitlines()[-1].encode())[3] for log, _ in SENTENCES}
-    session.checks.true("a sentence for every kind", kinds >= set(limits.KINDS), str(kinds))
-    session.checks.equal("words for every kind", set(CALLS), set(limits.KINDS))
-    refusals = set(limits.REFUSAL_ORDER) - {limits.SLICE_SHORT}
-    session.checks.equal("tests for every refusal", set(TESTS), refusals)
+    session.checks.true("a sentence for every kind", kinds >= set(KINDS), str(kinds))
+    session.checks.equal("words for every kind", set(CALLS), set(KINDS))
+    session.checks.equal("tests for every refusal", set(TESTS), set(RECORD_REFUSALS))
 
 
 def said_of(log: str) -> Explanation:

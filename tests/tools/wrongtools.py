@@ -4,7 +4,7 @@ import re
 from typing import Any, Callable, Dict, List, Tuple
 from unittest import mock
 
-from model.limits import DESCRIPTORS, MISSING, TAKEN
+from model.limits import DESCRIPTORS, Refusal
 from tests.tools import manylogs
 from tests.tools.session import Session
 from tools import boxes, changes, draw, explain, page, provenance, reasons, views
@@ -121,8 +121,8 @@ WRONG: Dict[str, Tuple[Any, str, Maker]] = {
     "draws boxes over each other": (draw, "make_plan", crowds),
 }
 WRONG_TESTS: Dict[str, Tuple[int, Maker]] = {
-    "leaves out what would pass": (TAKEN, fewer_values),
-    "names what would not pass": (MISSING, any_descriptor),
+    "leaves out what would pass": (Refusal.TAKEN, fewer_values),
+    "names what would not pass": (Refusal.MISSING, any_descriptor),
 }
 
 
