@@ -13,7 +13,7 @@ from bench.states import small_cases, small_laden_cases, worst_cases, worst_lade
 from model.generate import MIXES
 from model.limits import CALL_TAG, CONTAINERS, DEVICES, DIVERT_ACTION, FILES, ITEMS, PROCESSES
 from model.limits import RULE_LIMIT, Kind, Refusal, process_container
-from model.records import Call, Rule, combination, deny, encode, frame_bytes, limit
+from model.records import Call, Rule, confine, encode, forbid, frame_bytes, separate
 from tests.logtests.compare import model_lines
 from tests.logtests.randomlogs import LogGenerator
 
@@ -21,9 +21,9 @@ RULE_NUMBERS = range(RULE_LIMIT)
 LAST_RULE = RULE_NUMBERS[-1]
 
 # Full tables of rules that no state of a measured call breaks: one item each, or two.
-FORBIDDING = [deny(item, []) for item in RULE_NUMBERS]
-SEPARATING = [combination(item, RULE_LIMIT + item) for item in RULE_NUMBERS]
-CONFINING = [limit(item, CONTAINERS) for item in RULE_NUMBERS]
+FORBIDDING = [forbid(item, []) for item in RULE_NUMBERS]
+SEPARATING = [separate(item, RULE_LIMIT + item) for item in RULE_NUMBERS]
+CONFINING = [confine(item, CONTAINERS) for item in RULE_NUMBERS]
 RULE_TABLES = {
     "tag 11 hex, empty sets": FORBIDDING,
     "tag 12 hex": SEPARATING,
@@ -116,8 +116,8 @@ DIVERTED = f"write, diverted by rule {LAST_RULE}"
 
 def stopped_cases(place: Place) -> Dict[str, LogCase]:
     """The write, with the last of 32 rules against it."""
-    inhibiting = deny(0, [place.written])
-    diverting = deny(0, [place.written], DIVERT_ACTION, place.substitute)
+    inhibiting = forbid(0, [place.written])
+    diverting = forbid(0, [place.written], DIVERT_ACTION, place.substitute)
     write = encode(place.write)
     diverted = f"modify {LAST_RULE} {place.substitute}"
     return {
@@ -133,8 +133,8 @@ def write_case(place: Place) -> LogCase:
 
 def rule_cases(place: Place) -> Dict[str, LogCase]:
     """Rules that are loaded, and those that are refused for what is held."""
-    rule, wide = encode(CONFINING[0]), encode(deny(ITEMS[-1], CONTAINERS))
-    broken = encode(deny(0, [process_container(place.write.process)]))
+    rule, wide = encode(CONFINING[0]), encode(forbid(ITEMS[-1], CONTAINERS))
+    broken = encode(forbid(0, [process_container(place.write.process)]))
     last = f"rule {LAST_RULE}"
     return {
         "rule, loaded as number 0": LogCase([], place.before, rule, "rule 0"),
@@ -165,7 +165,7 @@ def refused_cases(place: Place) -> Dict[str, LogCase]:
         ("read of a dead process", place.dying, encode(dead_read), Refusal.DEAD_PROCESS),
         ("create, file in use", free, encode(create), Refusal.TAKEN),
         ("unmap, no link", [], encode(Call(Kind.UNMAP, process, FREE)), Refusal.MISSING),
-        ("rule, items equal", [], encode(combination(1, 1)), Refusal.SAME_TWICE),
+        ("rule, items equal", [], encode(separate(1, 1)), Refusal.SAME_TWICE),
         ("truncate of a device", device, encode(truncate), Refusal.NO_FILE),
     ]
     return {

@@ -3,10 +3,10 @@
 from typing import Optional
 
 from model.choices import Choices
-from model.limits import ACTIONS, CALL_TAG, COMBINATION_TAG, CONTAINERS, DENY_TAG, DEVICES, ITEMS
-from model.limits import KINDS, LIMIT_TAG, PROCESSES, RULE_LIMIT, VALUE_LENGTHS, Kind
+from model.limits import ACTIONS, CALL_TAG, CONFINE_TAG, CONTAINERS, DEVICES, FORBID_TAG, ITEMS
+from model.limits import KINDS, PROCESSES, RULE_LIMIT, SEPARATE_TAG, VALUE_LENGTHS, Kind
 from model.proposals import FIELDS, Proposer
-from model.records import Call, Rule, combination, encode, frame_bytes
+from model.records import Call, Rule, encode, frame_bytes, separate
 
 # Tags beside the known ones, those of later papers first.
 OTHER_TAGS = [*range(0x14, 0x1C), 0x00, 0x01, 0x0F, 0x1C, 0x20, 0x7F, 0x80, 0x90, 0xFF]
@@ -67,11 +67,11 @@ class FaultMaker:
         return encode(self.proposer.flawed(call, "ab", False)) if call else None
 
     def same_twice(self) -> Optional[bytes]:
-        """A pipe or a combination rule whose two fields are equal."""
+        """A pipe, or a rule that separates, whose two fields are equal."""
         if self.choices.chance(0.4):
             action, substitute = self.proposer.action()
             item = self.proposer.item()
-            return encode(combination(item, item, action, substitute))
+            return encode(separate(item, item, action, substitute))
         call = self.proposer.call(Kind.PIPE)
         if call is None:
             return None
@@ -125,7 +125,7 @@ class FaultMaker:
     def noise(self) -> bytes:
         """A call or a rule made without a look at the state."""
         pick = self.choices.pick
-        tag = self.choices.weighted([(CALL_TAG, 6), (DENY_TAG, 1), (LIMIT_TAG, 1)])
+        tag = self.choices.weighted([(CALL_TAG, 6), (FORBID_TAG, 1), (CONFINE_TAG, 1)])
         if tag == CALL_TAG:
             return encode(Call(pick(KINDS), pick(PROCESSES), *(pick(EDGES) for _ in "abc")))
         containers = frozenset(self.choices.some(CONTAINERS, 0.5))
@@ -142,4 +142,4 @@ class FaultMaker:
 
     def _equal_items(self, rule: Optional[Rule]) -> Rule:
         item = rule.items[0] if rule else self.proposer.item()
-        return Rule(COMBINATION_TAG, (item, item), frozenset(), 0, 0)
+        return Rule(SEPARATE_TAG, (item, item), frozenset(), 0, 0)

@@ -24,11 +24,11 @@ LOG_LIMIT = 65536
 
 # Document 01, The records: tags and the length of each tag's value.
 CALL_TAG = 0x10
-DENY_TAG = 0x11  # the item may not be in a container of the set
-COMBINATION_TAG = 0x12  # no container may hold both items
-LIMIT_TAG = 0x13  # the item may not be in a container outside the set
+FORBID_TAG = 0x11  # the item may not be in a container of the set
+SEPARATE_TAG = 0x12  # no container may hold both items
+CONFINE_TAG = 0x13  # the item may not be in a container outside the set
 HEADER_LENGTH = 3
-VALUE_LENGTHS = {CALL_TAG: 5, DENY_TAG: 11, COMBINATION_TAG: 4, LIMIT_TAG: 11}
+VALUE_LENGTHS = {CALL_TAG: 5, FORBID_TAG: 11, SEPARATE_TAG: 4, CONFINE_TAG: 11}
 SET_BYTES = 8
 
 

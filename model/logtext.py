@@ -9,7 +9,7 @@ import re
 from typing import Callable, Dict, Iterable, List, NamedTuple, Optional, Tuple
 
 from model import limits
-from model.limits import CALL_TAG, COMBINATION_TAG, DENY_TAG, LIMIT_TAG, Kind, Refusal
+from model.limits import CALL_TAG, CONFINE_TAG, FORBID_TAG, SEPARATE_TAG, Kind, Refusal
 from model.records import frame_bytes, read_frame
 
 BYTE = range(0, 256)
@@ -266,9 +266,9 @@ FORMS = (
     call_form("fork", Kind.FORK, PROCESS, CHILD),
     call_form("exit", Kind.EXIT, PROCESS),
     call_form("label", Kind.LABEL, UNUSED, CONTAINER, ITEM),
-    Form("forbid", DENY_TAG, b"", (ITEM, set_part("in="), ACTION)),
-    Form("separate", COMBINATION_TAG, b"", (ITEM_PAIR, ACTION)),
-    Form("confine", LIMIT_TAG, b"", (ITEM, set_part("to="), ACTION)),
+    Form("forbid", FORBID_TAG, b"", (ITEM, set_part("in="), ACTION)),
+    Form("separate", SEPARATE_TAG, b"", (ITEM_PAIR, ACTION)),
+    Form("confine", CONFINE_TAG, b"", (ITEM, set_part("to="), ACTION)),
 )
 FORM_OF_WORD = {form.word: form for form in FORMS}
 RAW_SHAPE = f"{RAW} HEX ..."

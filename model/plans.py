@@ -6,7 +6,7 @@ from model.choices import Choices
 from model.limits import CONTAINERS, DEVICES, DIVERT_ACTION, FILES, INHIBIT_ACTION, ITEMS, PROCESSES
 from model.limits import RULE_LIMIT, Kind, process_container
 from model.proposals import Proposer
-from model.records import Call, Rule, combination, deny, limit
+from model.records import Call, Rule, confine, forbid, separate
 
 Plan = List[Union[Call, Rule]]
 
@@ -20,7 +20,7 @@ class Planner:
         self.table = [
             (self.chain, 3),
             (self.divert, 4),
-            (self.divert_combination, 2),
+            (self.divert_separate, 2),
             (self.reuse_process, 2),
             (self.end_use, 6),
             (self.truncate_mapped, 3),
@@ -68,13 +68,13 @@ class Planner:
             return []
         substitute = self._substitute(device)
         forbidden = {device, *self.choices.some(DEVICES, 0.1)}
-        rule = deny(item, forbidden, DIVERT_ACTION, substitute)
+        rule = forbid(item, forbidden, DIVERT_ACTION, substitute)
         if self.choices.chance(0.3):
-            rule = limit(item, set(CONTAINERS) - {device}, DIVERT_ACTION, substitute)
+            rule = confine(item, set(CONTAINERS) - {device}, DIVERT_ACTION, substitute)
         descriptor = self.choices.near(self.proposer.closed(process))
         plan: Plan = [Call(Kind.LABEL, 0, process_container(process), item), rule]
         if self.choices.chance(0.15):
-            plan.insert(1, deny(item, [substitute], INHIBIT_ACTION, 0))
+            plan.insert(1, forbid(item, [substitute], INHIBIT_ACTION, 0))
         plan.append(Call(Kind.DEVICE, process, descriptor, device))
         plan.append(Call(Kind.WRITE, process, descriptor))
         if self.choices.chance(0.3):
@@ -83,8 +83,8 @@ class Planner:
             plan.append(Call(Kind.LABEL, 0, device, item))
         return plan
 
-    def divert_combination(self) -> Plan:
-        """Load a diverting combination rule and bring its items together."""
+    def divert_separate(self) -> Plan:
+        """Load a diverting rule that separates two items, and bring them together."""
         process = self._live()
         if process is None or not self.proposer.closed(process):
             return []
@@ -96,7 +96,7 @@ class Planner:
         last = self.choices.pick([Kind.WRITE, Kind.WRITE, Kind.READ, Kind.MAP_READ])
         return [
             Call(Kind.LABEL, 0, process_container(process), first),
-            combination(first, second, DIVERT_ACTION, substitute),
+            separate(first, second, DIVERT_ACTION, substitute),
             Call(Kind.LABEL, 0, device, second),
             Call(Kind.DEVICE, process, descriptor, device),
             Call(last, process, descriptor),

@@ -3,10 +3,10 @@
 from typing import Dict, Iterable, List, Optional, Tuple
 
 from model.choices import Choices
-from model.limits import ACTIONS, COMBINATION_TAG, CONTAINERS, DENY_TAG, DESCRIPTORS, DEVICES
-from model.limits import DIVERT_ACTION, FILES, INHIBIT_ACTION, ITEMS, LIMIT_TAG, NAMES, PROCESSES
+from model.limits import ACTIONS, CONFINE_TAG, CONTAINERS, DESCRIPTORS, DEVICES, DIVERT_ACTION
+from model.limits import FILES, FORBID_TAG, INHIBIT_ACTION, ITEMS, NAMES, PROCESSES, SEPARATE_TAG
 from model.limits import Kind, process_container
-from model.records import Call, Rule, combination, deny, limit
+from model.records import Call, Rule, confine, forbid, separate
 from model.tracker import FIELD_RANGES, State, Tracker, substitutes
 
 FIELDS = Call._fields[1:]
@@ -154,22 +154,22 @@ class Proposer:
 
     def rule(self) -> Optional[Rule]:
         """A rule that the present state keeps, or None."""
-        tag = self.choices.weighted([(DENY_TAG, 5), (COMBINATION_TAG, 2), (LIMIT_TAG, 2)])
+        tag = self.choices.weighted([(FORBID_TAG, 5), (SEPARATE_TAG, 2), (CONFINE_TAG, 2)])
         action, substitute = self.action()
         item = self.item()
         holders = self.state.holders(item)
-        if tag == DENY_TAG:
+        if tag == FORBID_TAG:
             free = [c for c in CONTAINERS if c not in holders]
-            denied = self.choices.some(free, self.choices.pick([0.05, 0.2]))
-            return deny(item, denied, action, substitute)
-        if tag == LIMIT_TAG:
+            forbidden = self.choices.some(free, self.choices.pick([0.05, 0.2]))
+            return forbid(item, forbidden, action, substitute)
+        if tag == CONFINE_TAG:
             allowed = self.choices.some(CONTAINERS, 0.9) + holders
-            return limit(item, allowed, action, substitute)
+            return confine(item, allowed, action, substitute)
         together = {i for held in self.state.items.values() if item in held for i in held}
         apart = [i for i in ITEMS if i != item and i not in together]
         if not apart:
             return None
-        return combination(item, self.choices.pick(apart), action, substitute)
+        return separate(item, self.choices.pick(apart), action, substitute)
 
     def broken_rule(self) -> Optional[Rule]:
         """A rule that the present state breaks, or None."""
@@ -182,14 +182,14 @@ class Proposer:
         action, substitute = self.action()
         if len(held) > 1 and self.choices.chance(0.4):
             other = self.choices.pick([i for i in held if i != item])
-            return combination(item, other, action, substitute)
+            return separate(item, other, action, substitute)
         if self.choices.chance(0.5):
             outside = [c for c in CONTAINERS if c != container]
-            return limit(item, self.choices.some(outside, 0.5), action, substitute)
-        return deny(item, [container, *self.choices.some(CONTAINERS, 0.1)], action, substitute)
+            return confine(item, self.choices.some(outside, 0.5), action, substitute)
+        return forbid(item, [container, *self.choices.some(CONTAINERS, 0.1)], action, substitute)
 
     def harmless_rule(self) -> Rule:
         """A rule that no state breaks."""
         if self.choices.chance(0.5):
-            return deny(self.choices.pick(ITEMS), [], INHIBIT_ACTION, 0)
-        return limit(self.choices.pick(ITEMS), CONTAINERS, DIVERT_ACTION, 0)
+            return forbid(self.choices.pick(ITEMS), [], INHIBIT_ACTION, 0)
+        return confine(self.choices.pick(ITEMS), CONTAINERS, DIVERT_ACTION, 0)

@@ -10,8 +10,8 @@ from model.choices import Choices
 from model.contents import MixedFunctions, RecordStep, Step, TwinReport, TwinRun, VariedFunctions
 from model.contents import call_of, exactness_faults
 from model.generate import MIXES, generate_records, generate_steps
-from model.limits import COMBINATION_TAG, CONTAINERS, DENY_TAG, FILES, KINDS, LIMIT_TAG
-from model.limits import PROCESS_CONTAINERS, RECORD_REFUSALS, Kind, Refusal, process_container
+from model.limits import CONFINE_TAG, CONTAINERS, FILES, FORBID_TAG, KINDS, PROCESS_CONTAINERS
+from model.limits import RECORD_REFUSALS, SEPARATE_TAG, Kind, Refusal, process_container
 from model.records import Call, Rule, read_frame
 from model.tally import Tally
 from model.tracker import NO_ITEMS, State, Tracker
@@ -39,7 +39,7 @@ def chosen_items(seed: int, steps: List[Step]) -> List[int]:
     calls = [call for call in map(call_of, steps) if call is not None]
     labelled = sorted({call.b for call in calls if call.kind == Kind.LABEL})
     frames = [read_frame(step.data) for step in steps if isinstance(step, RecordStep)]
-    ruled = {f.value[0] for f in frames if f and f.value and f.tag in (DENY_TAG, LIMIT_TAG)}
+    ruled = {f.value[0] for f in frames if f and f.value and f.tag in (FORBID_TAG, CONFINE_TAG)}
     both = [item for item in labelled if item in ruled]
     if both and choices.chance(0.5):
         return [choices.pick(both)]
@@ -281,7 +281,7 @@ def check_tallies(checks: Checks, tallies: Dict[str, Tally]) -> None:
         checks.true(f"generated: refusals {pair} at once", count > 0)
     for kind in KINDS:
         checks.true(f"generated: kind {kind} done", tallies["deep"].done_kinds[kind] > 0)
-    for tag in (DENY_TAG, COMBINATION_TAG, LIMIT_TAG):
+    for tag in (FORBID_TAG, SEPARATE_TAG, CONFINE_TAG):
         for action in (0, 1):
             count = tallies["deep"].rules[tag, action]
             checks.true(f"generated: rule of tag {tag:x}, action {action}", count > 0)

@@ -3,8 +3,8 @@
 from typing import List, Set, Tuple, Union
 
 from model.checks import Checks, Options
-from model.limits import CALL_TAG, CONTAINERS, DENY_TAG, Kind, Refusal
-from model.records import Call, Rule, combination, deny, encode, frame_bytes, limit, read_frame
+from model.limits import CALL_TAG, CONTAINERS, FORBID_TAG, Kind, Refusal
+from model.records import Call, Rule, confine, encode, forbid, frame_bytes, read_frame, separate
 from model.test_runs import allows
 from model.tracker import Tracker, call_refusals, frame_refusals, refused, rule_refusals
 
@@ -19,7 +19,7 @@ SETUP = [
     Call(Kind.LABEL, 0, 24, 2),
     Call(Kind.LABEL, 0, 2, 16),
 ]
-FULL = SETUP + [deny(40, [])] * 32
+FULL = SETUP + [forbid(40, [])] * 32
 
 Case = Tuple[Union[Call, Rule], Set[Refusal]]
 
@@ -86,44 +86,44 @@ SEVERAL_CASES: List[Case] = [
     (Call(Kind.PIPE, 0, 0, 0, 25), {Refusal.TAKEN, Refusal.SAME_TWICE}),
     (Call(Kind.PIPE, 0, 3, 3, 24), {Refusal.TAKEN, Refusal.SAME_TWICE}),
     (Call(Kind.LINK, 2, 6, 5), {Refusal.DEAD_PROCESS, Refusal.TAKEN, Refusal.MISSING}),
-    (deny(99, [], 7), {Refusal.UNKNOWN_KIND, Refusal.OUT_OF_RANGE}),
-    (combination(3, 3, 2), {Refusal.UNKNOWN_KIND, Refusal.SAME_TWICE}),
-    (deny(1, [24], 2), {Refusal.UNKNOWN_KIND, Refusal.BROKEN_ALREADY}),
-    (combination(64, 64), {Refusal.OUT_OF_RANGE, Refusal.SAME_TWICE}),
-    (deny(1, [24], 0, 1), {Refusal.OUT_OF_RANGE, Refusal.BROKEN_ALREADY}),
-    (combination(1, 1), {Refusal.SAME_TWICE, Refusal.BROKEN_ALREADY}),
+    (forbid(99, [], 7), {Refusal.UNKNOWN_KIND, Refusal.OUT_OF_RANGE}),
+    (separate(3, 3, 2), {Refusal.UNKNOWN_KIND, Refusal.SAME_TWICE}),
+    (forbid(1, [24], 2), {Refusal.UNKNOWN_KIND, Refusal.BROKEN_ALREADY}),
+    (separate(64, 64), {Refusal.OUT_OF_RANGE, Refusal.SAME_TWICE}),
+    (forbid(1, [24], 0, 1), {Refusal.OUT_OF_RANGE, Refusal.BROKEN_ALREADY}),
+    (separate(1, 1), {Refusal.SAME_TWICE, Refusal.BROKEN_ALREADY}),
 ]
 
 RULE_CASES: List[Case] = [
-    (deny(1, [], 2), {Refusal.UNKNOWN_KIND}),
-    (limit(1, CONTAINERS, 255), {Refusal.UNKNOWN_KIND}),
-    (combination(1, 3, 2), {Refusal.UNKNOWN_KIND}),
-    (deny(64, []), {Refusal.OUT_OF_RANGE}),
-    (combination(1, 64), {Refusal.OUT_OF_RANGE}),
-    (combination(64, 1), {Refusal.OUT_OF_RANGE}),
-    (deny(1, [], 0, 3), {Refusal.OUT_OF_RANGE}),
-    (deny(1, [], 1, 8), {Refusal.OUT_OF_RANGE}),
-    (deny(1, [], 1, 64), {Refusal.OUT_OF_RANGE}),
-    (combination(3, 3), {Refusal.SAME_TWICE}),
-    (combination(16, 16, 1, 63), {Refusal.SAME_TWICE, Refusal.BROKEN_ALREADY}),
-    (deny(1, [24]), {Refusal.BROKEN_ALREADY}),
-    (deny(1, [24], 1, 3), {Refusal.BROKEN_ALREADY}),
-    (combination(1, 2), {Refusal.BROKEN_ALREADY}),
-    (limit(16, []), {Refusal.BROKEN_ALREADY}),
-    (limit(16, [3, 24]), {Refusal.BROKEN_ALREADY}),
+    (forbid(1, [], 2), {Refusal.UNKNOWN_KIND}),
+    (confine(1, CONTAINERS, 255), {Refusal.UNKNOWN_KIND}),
+    (separate(1, 3, 2), {Refusal.UNKNOWN_KIND}),
+    (forbid(64, []), {Refusal.OUT_OF_RANGE}),
+    (separate(1, 64), {Refusal.OUT_OF_RANGE}),
+    (separate(64, 1), {Refusal.OUT_OF_RANGE}),
+    (forbid(1, [], 0, 3), {Refusal.OUT_OF_RANGE}),
+    (forbid(1, [], 1, 8), {Refusal.OUT_OF_RANGE}),
+    (forbid(1, [], 1, 64), {Refusal.OUT_OF_RANGE}),
+    (separate(3, 3), {Refusal.SAME_TWICE}),
+    (separate(16, 16, 1, 63), {Refusal.SAME_TWICE, Refusal.BROKEN_ALREADY}),
+    (forbid(1, [24]), {Refusal.BROKEN_ALREADY}),
+    (forbid(1, [24], 1, 3), {Refusal.BROKEN_ALREADY}),
+    (separate(1, 2), {Refusal.BROKEN_ALREADY}),
+    (confine(16, []), {Refusal.BROKEN_ALREADY}),
+    (confine(16, [3, 24]), {Refusal.BROKEN_ALREADY}),
 ]
 
 FULL_CASES: List[Case] = [
-    (deny(40, []), {Refusal.RULES_FULL}),
-    (combination(3, 4), {Refusal.RULES_FULL}),
-    (limit(50, [], 1, 24), {Refusal.RULES_FULL}),
-    (deny(99, []), {Refusal.OUT_OF_RANGE, Refusal.RULES_FULL}),
-    (deny(40, [], 9), {Refusal.UNKNOWN_KIND, Refusal.RULES_FULL}),
-    (combination(3, 3), {Refusal.SAME_TWICE, Refusal.RULES_FULL}),
-    (deny(1, [24]), {Refusal.RULES_FULL, Refusal.BROKEN_ALREADY}),
-    (combination(2, 2), {Refusal.SAME_TWICE, Refusal.RULES_FULL, Refusal.BROKEN_ALREADY}),
+    (forbid(40, []), {Refusal.RULES_FULL}),
+    (separate(3, 4), {Refusal.RULES_FULL}),
+    (confine(50, [], 1, 24), {Refusal.RULES_FULL}),
+    (forbid(99, []), {Refusal.OUT_OF_RANGE, Refusal.RULES_FULL}),
+    (forbid(40, [], 9), {Refusal.UNKNOWN_KIND, Refusal.RULES_FULL}),
+    (separate(3, 3), {Refusal.SAME_TWICE, Refusal.RULES_FULL}),
+    (forbid(1, [24]), {Refusal.RULES_FULL, Refusal.BROKEN_ALREADY}),
+    (separate(2, 2), {Refusal.SAME_TWICE, Refusal.RULES_FULL, Refusal.BROKEN_ALREADY}),
     (
-        combination(99, 99, 2),
+        separate(99, 99, 2),
         {Refusal.UNKNOWN_KIND, Refusal.OUT_OF_RANGE, Refusal.SAME_TWICE, Refusal.RULES_FULL},
     ),
 ]
@@ -166,8 +166,8 @@ def test_rules_full(checks: Checks, options: Options) -> None:
 
 
 def test_rules_accepted(checks: Checks, options: Options) -> None:
-    accepted = [deny(1, []), limit(16, [2]), limit(50, []), combination(1, 16, 1, 63)]
-    accepted += [deny(1, [25], 1, 0), deny(1, [25], 1, 7), deny(1, [25], 1, 24), deny(1, [25])]
+    accepted = [forbid(1, []), confine(16, [2]), confine(50, []), separate(1, 16, 1, 63)]
+    accepted += [forbid(1, [25], 1, substitute) for substitute in (0, 7, 24)] + [forbid(1, [25])]
     answers = Tracker()
     answers.state = allows(SETUP).state
     lines = [str(answers.answer_record(encode(rule))[0]) for rule in accepted]
@@ -225,18 +225,18 @@ def test_rule_ranges(checks: Checks, options: Options) -> None:
     state = allows(SETUP).state
     diverted = [*range(0, 8), *range(24, 64)]
     tables = [
-        ("item", lambda value: deny(value, []), list(range(64))),
-        ("first item", lambda value: combination(value, 63), list(range(64))),
-        ("second item", lambda value: combination(0, value), list(range(64))),
-        ("substitute of 0", lambda value: limit(1, CONTAINERS, 0, value), [0]),
-        ("substitute of 1", lambda value: limit(1, CONTAINERS, 1, value), diverted),
+        ("item", lambda value: forbid(value, []), list(range(64))),
+        ("first item", lambda value: separate(value, 63), list(range(64))),
+        ("second item", lambda value: separate(0, value), list(range(64))),
+        ("substitute of 0", lambda value: confine(1, CONTAINERS, 0, value), [0]),
+        ("substitute of 1", lambda value: confine(1, CONTAINERS, 1, value), diverted),
     ]
     for name, make, expected in tables:
         accepted = [
             v for v in range(256) if Refusal.OUT_OF_RANGE not in rule_refusals(state, make(v))
         ]
         checks.equal(f"rule {name}: range", accepted, expected)
-    rules = [deny(1, [], action) for action in range(256)]
+    rules = [forbid(1, [], action) for action in range(256)]
     actions = [
         rule.action
         for rule in rules
@@ -263,7 +263,7 @@ def test_framing(checks: Checks, options: Options) -> None:
         ("call, no value", b"\x10\x00\x00", "refused 3"),
         ("call, 4 bytes", frame_bytes(CALL_TAG, start[3:-1]), "refused 3"),
         ("call, 261 bytes", long_call, "refused 3"),
-        ("rule, 4 bytes", frame_bytes(DENY_TAG, bytes(4)), "refused 3"),
+        ("rule, 4 bytes", frame_bytes(FORBID_TAG, bytes(4)), "refused 3"),
         ("whole", start, "allow"),
     ]
     for name, data, expected in cases:

@@ -4,7 +4,7 @@ from typing import Dict, List, Set, Tuple, Union
 
 from model.checks import Checks, Options
 from model.limits import CONTAINERS, Kind
-from model.records import Call, Rule, combination, deny, encode, limit
+from model.records import Call, Rule, confine, encode, forbid, separate
 from model.tracker import State, Tracker
 
 RUN_B_INPUT = bytes.fromhex(
@@ -148,20 +148,20 @@ def test_run_j_rename_same(checks: Checks, options: Options) -> None:
 
 
 def test_run_k_rule_refused(checks: Checks, options: Options) -> None:
-    rule = deny(1, [24])
+    rule = forbid(1, [24])
     tracker = allows(LABELLED)
     checks.equal("run K: broken already", more(tracker, [rule]), ["refused 12"])
-    loaded = more(tracker, [deny(2, [24])] * 32)
+    loaded = more(tracker, [forbid(2, [24])] * 32)
     checks.equal("run K: 32 rules", loaded, [f"rule {number}" for number in range(32)])
     checks.equal("run K: rules full", more(tracker, [rule]), ["refused 11"])
     checks.equal("run K: rules held", len(tracker.state.rules), 32)
     checks.equal("run K: holdings", holdings(tracker), {24: {1}})
 
 
-def test_run_l_combination(checks: Checks, options: Options) -> None:
+def test_run_l_separate(checks: Checks, options: Options) -> None:
     tracker = allows(
         [
-            combination(1, 2),
+            separate(1, 2),
             Call(Kind.START, 0),
             Call(Kind.CREATE, 0, 0, 0, 24),
             Call(Kind.LABEL, 0, 8, 1),
@@ -176,13 +176,13 @@ def test_run_l_combination(checks: Checks, options: Options) -> None:
 
 def test_run_m_substitute_unused(checks: Checks, options: Options) -> None:
     calls = [Call(Kind.START, 0), Call(Kind.LABEL, 0, 8, 1), Call(Kind.DEVICE, 0, 0, 1)]
-    tracker = allows([deny(1, [1], 1, 24), *calls])
+    tracker = allows([forbid(1, [1], 1, 24), *calls])
     checks.equal("run M: answer", more(tracker, [Call(Kind.WRITE, 0, 0)]), ["inhibit 0"])
     checks.equal("run M: holdings", holdings(tracker), {8: {1}})
 
 
 def test_run_n_fork(checks: Checks, options: Options) -> None:
-    tracker = allows([limit(1, [24, 8]), Call(Kind.START, 0), Call(Kind.LABEL, 0, 8, 1)])
+    tracker = allows([confine(1, [24, 8]), Call(Kind.START, 0), Call(Kind.LABEL, 0, 8, 1)])
     checks.equal("run N: answer", more(tracker, [Call(Kind.FORK, 0, 1)]), ["inhibit 0"])
     checks.equal("run N: live", tracker.state.live, {0})
     checks.equal("run N: holdings", holdings(tracker), {8: {1}})
@@ -263,13 +263,13 @@ def test_lowest_rule_decides(checks: Checks, options: Options) -> None:
     start = [Call(Kind.START, 0), Call(Kind.LABEL, 0, 8, 1), Call(Kind.DEVICE, 0, 0, 1)]
     write = Call(Kind.WRITE, 0, 0)
     cases = [
-        ("diverted", [deny(1, [1], 1, 3)], "modify 0 3"),
-        ("lowest inhibits", [deny(1, [1]), deny(1, [1], 1, 3)], "inhibit 0"),
-        ("lowest diverts", [deny(5, [1]), deny(1, [1], 1, 3), deny(1, [1])], "modify 1 3"),
-        ("to a forbidden one", [deny(1, [1], 1, 3), deny(1, [3])], "inhibit 0"),
-        ("to the same", [deny(1, [1], 1, 1)], "inhibit 0"),
-        ("limit diverts", [limit(1, [8, 4], 1, 4)], "modify 0 4"),
-        ("limit keeps", [limit(1, [8, 1])], "allow"),
+        ("diverted", [forbid(1, [1], 1, 3)], "modify 0 3"),
+        ("lowest inhibits", [forbid(1, [1]), forbid(1, [1], 1, 3)], "inhibit 0"),
+        ("lowest diverts", [forbid(5, [1]), forbid(1, [1], 1, 3), forbid(1, [1])], "modify 1 3"),
+        ("to a forbidden one", [forbid(1, [1], 1, 3), forbid(1, [3])], "inhibit 0"),
+        ("to the same", [forbid(1, [1], 1, 1)], "inhibit 0"),
+        ("confine diverts", [confine(1, [8, 4], 1, 4)], "modify 0 4"),
+        ("confine keeps", [confine(1, [8, 1])], "allow"),
     ]
     for name, rules, answer in cases:
         tracker = allows([*start, *rules])
@@ -280,9 +280,9 @@ def test_rules_see_whole_reach(checks: Checks, options: Options) -> None:
     records = [Call(Kind.START, 0), Call(Kind.START, 1), Call(Kind.CREATE, 0, 0, 0, 24)]
     records += [Call(Kind.OPEN, 1, 0, 0), Call(Kind.MAP_READ, 1, 0), Call(Kind.LABEL, 0, 8, 1)]
     write = Call(Kind.WRITE, 0, 0)
-    tracker = allows(records + [deny(1, [9])])
+    tracker = allows(records + [forbid(1, [9])])
     checks.equal("reach: written file feeds 9", more(tracker, [write]), ["inhibit 0"])
-    device = [Call(Kind.DEVICE, 0, 1, 1), deny(1, [1], 1, 24), deny(1, [9])]
+    device = [Call(Kind.DEVICE, 0, 1, 1), forbid(1, [1], 1, 24), forbid(1, [9])]
     tracker = allows(records + device)
     answers = more(tracker, [Call(Kind.WRITE, 0, 1)])
     checks.equal("reach: substitute feeds 9", answers, ["inhibit 0"])
@@ -292,11 +292,11 @@ def test_rules_see_whole_reach(checks: Checks, options: Options) -> None:
 
 
 def test_only_writes_divert(checks: Checks, options: Options) -> None:
-    rules = [deny(1, [8, 9], 1, 3)]
+    rules = [forbid(1, [8, 9], 1, 3)]
     records = [Call(Kind.START, 0), Call(Kind.CREATE, 0, 0, 0, 24), Call(Kind.LABEL, 0, 24, 1)]
     calls = [Call(kind, 0, 0) for kind in (Kind.READ, Kind.MAP_READ, Kind.MAP_BOTH)]
     for call in [*calls, Call(Kind.LABEL, 0, 8, 1)]:
         tracker = allows(records + rules)
         checks.equal(f"kind {call.kind} is inhibited", more(tracker, [call]), ["inhibit 0"])
-    tracker = allows([Call(Kind.START, 0), Call(Kind.LABEL, 0, 8, 1), deny(1, [9], 1, 3)])
+    tracker = allows([Call(Kind.START, 0), Call(Kind.LABEL, 0, 8, 1), forbid(1, [9], 1, 3)])
     checks.equal("fork is inhibited", more(tracker, [Call(Kind.FORK, 0, 1)]), ["inhibit 0"])

@@ -7,9 +7,9 @@ new State in its place, so a caller may keep an earlier one.
 from dataclasses import dataclass, field
 from typing import Callable, Dict, FrozenSet, List, NamedTuple, Optional, Set, Tuple, Union
 
-from model.limits import ACTIONS, CALL_TAG, COMBINATION_TAG, CONTAINERS, DENY_TAG, DESCRIPTORS
-from model.limits import DEVICES, DIVERT_ACTION, FILES, ITEMS, KINDS, NAMES, PROCESSES
-from model.limits import RULE_LIMIT, VALUE_LENGTHS, Kind, Refusal, process_container
+from model.limits import ACTIONS, CALL_TAG, CONTAINERS, DESCRIPTORS, DEVICES, DIVERT_ACTION, FILES
+from model.limits import FORBID_TAG, ITEMS, KINDS, NAMES, PROCESSES, RULE_LIMIT, SEPARATE_TAG
+from model.limits import VALUE_LENGTHS, Kind, Refusal, process_container
 from model.records import Call, Frame, Rule, decode_call, decode_rule, read_frame
 
 NO_ITEMS: FrozenSet[int] = frozenset()
@@ -359,7 +359,7 @@ def rule_refusals(state: State, rule: Rule) -> Set[Refusal]:
         found.add(Refusal.UNKNOWN_KIND)
     if rule.substitute not in substitutes(rule.action) or not set(rule.items) <= set(ITEMS):
         found.add(Refusal.OUT_OF_RANGE)
-    if rule.tag == COMBINATION_TAG and rule.items[0] == rule.items[1]:
+    if rule.tag == SEPARATE_TAG and rule.items[0] == rule.items[1]:
         found.add(Refusal.SAME_TWICE)
     if len(state.rules) >= RULE_LIMIT:
         found.add(Refusal.RULES_FULL)
@@ -391,7 +391,7 @@ def first_refusal(numbers: Set[Refusal]) -> Refusal:
 
 def is_broken(state: State, rule: Rule) -> bool:
     """Whether the state breaks the rule."""
-    if rule.tag == COMBINATION_TAG:
+    if rule.tag == SEPARATE_TAG:
         both = frozenset(rule.items)
         return any(both <= held for held in state.items.values())
     item = rule.items[0]
@@ -400,9 +400,9 @@ def is_broken(state: State, rule: Rule) -> bool:
 
 def forbids(rule: Rule, container: int, item: int) -> bool:
     """Whether the rule forbids the container the item, that item alone."""
-    if rule.tag == COMBINATION_TAG or rule.items[0] != item:
+    if rule.tag == SEPARATE_TAG or rule.items[0] != item:
         return False
-    return (container in rule.containers) == (rule.tag == DENY_TAG)
+    return (container in rule.containers) == (rule.tag == FORBID_TAG)
 
 
 def broken_rules(state: State) -> List[int]:

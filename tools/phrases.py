@@ -6,8 +6,8 @@ sort of rule is a line in RULES, a new answer one in ANSWERS.
 
 from typing import Any, Dict
 
-from model.limits import CALL_TAG, COMBINATION_TAG, DENY_TAG, DEVICES, DIVERT_ACTION, INHIBIT_ACTION
-from model.limits import KINDS, LIMIT_TAG, PROCESS_CONTAINERS, Kind
+from model.limits import CALL_TAG, CONFINE_TAG, DEVICES, DIVERT_ACTION, FORBID_TAG, INHIBIT_ACTION
+from model.limits import KINDS, PROCESS_CONTAINERS, SEPARATE_TAG, Kind
 from model.logtext import FORMS
 from model.records import Call, Rule
 from model.tracker import Answer, State
@@ -70,13 +70,13 @@ DIVERTED = "{giver} writes it, and rule {rule} diverts the write to {target}"
 
 # A rule, and what becomes of a call that would break it.
 RULES: Dict[int, str] = {
-    DENY_TAG: "{first} may not be in {containers}",
-    COMBINATION_TAG: "no container may hold both {first} and {second}",
-    LIMIT_TAG: "{first} may be in {containers} only",
+    FORBID_TAG: "{first} may not be in {containers}",
+    SEPARATE_TAG: "no container may hold both {first} and {second}",
+    CONFINE_TAG: "{first} may be in {containers} only",
 }
 EMPTY_RULES: Dict[int, str] = {  # with an empty set
-    DENY_TAG: "{first} may be anywhere, for the set is empty",
-    LIMIT_TAG: "{first} may be nowhere, for the set is empty",
+    FORBID_TAG: "{first} may be anywhere, for the set is empty",
+    CONFINE_TAG: "{first} may be nowhere, for the set is empty",
 }
 ACTIONS: Dict[int, str] = {
     INHIBIT_ACTION: "a call that would break it is inhibited",
@@ -139,7 +139,7 @@ def rule_text(words: Words, rule: Rule) -> str:
     return shapes[rule.tag].format(
         first=words.item(first),
         second=words.item(last),
-        containers=set_words(words, rule.containers, "or" if rule.tag == DENY_TAG else "and"),
+        containers=set_words(words, rule.containers, "or" if rule.tag == FORBID_TAG else "and"),
     )
 
 

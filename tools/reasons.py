@@ -314,7 +314,7 @@ def rules_full(case: Case) -> List[Failed]:
 
 def broken_places(state: State, rule: Rule) -> List[int]:
     """The containers that break a rule."""
-    if rule.tag == limits.COMBINATION_TAG:
+    if rule.tag == limits.SEPARATE_TAG:
         return [c for c in limits.CONTAINERS if state.items[c].issuperset(rule.items)]
     return [c for c in state.holders(rule.items[0]) if forbids(rule, c, rule.items[0])]
 
@@ -330,12 +330,12 @@ def broken_already(case: Case) -> List[Failed]:
     places = broken_places(case.state, rule)
     hold = "holds" if len(places) == 1 else "hold"
     text = f"{words.containers(places)} {hold} {joined(map(words.item, rule.items))} now"
-    if rule.tag == limits.COMBINATION_TAG:
+    if rule.tag == limits.SEPARATE_TAG:
         return [Failed(text, advice="load the rule before the two items meet")]
     fixed = rule.containers.symmetric_difference(places)
     if not protects(rule._replace(containers=fixed)):
         return [Failed(text, advice="load the rule before the item gets there")]
-    change = "without {} in its set" if rule.tag == limits.DENY_TAG else "with {} in its set too"
+    change = "without {} in its set" if rule.tag == limits.FORBID_TAG else "with {} in its set too"
     open_now = f"{change.format(set_words(words, places))}, which it would not protect"
     advice = f"it would be loaded {open_now}, or before the item gets there"
     return [Failed(text, "containers", [fixed], advice=advice, offers=[fixed])]

@@ -2,7 +2,7 @@
 
 from typing import Dict, FrozenSet, Iterable, List, NamedTuple, Optional, Set
 
-from model.limits import CONTAINERS, DENY_TAG, DEVICES, DIVERT_ACTION, PROCESS_CONTAINERS
+from model.limits import CONTAINERS, DEVICES, DIVERT_ACTION, FORBID_TAG, PROCESS_CONTAINERS
 from model.limits import process_container
 from model.tracker import ALLOW, State, forbids
 from tools.changes import Changes, changes_between
@@ -79,7 +79,7 @@ def named_devices(state: State) -> Set[int]:
     """The devices in the set of a rule that forbids, or to which a rule diverts."""
     found: Set[int] = set()
     for rule in state.rules:
-        found.update(rule.containers if rule.tag == DENY_TAG else ())
+        found.update(rule.containers if rule.tag == FORBID_TAG else ())
         found.update([rule.substitute] if rule.action == DIVERT_ACTION else ())
     return found & {*DEVICES}
 

@@ -9,7 +9,7 @@ from model.generate import MIXES, Generator
 from model.limits import CALL_TAG, CONTAINERS, DEVICES, ITEMS, LOG_LIMIT, RULE_LIMIT, VALUE_LENGTHS
 from model.limits import Kind, process_container
 from model.logtext import split_records
-from model.records import Call, deny, encode, frame_bytes, read_frame
+from model.records import Call, encode, forbid, frame_bytes, read_frame
 from model.tracker import forbids, frame_refusals
 from tests.logtests.compare import difference, model_lines, program_output
 
@@ -72,7 +72,7 @@ class LogGenerator(Generator):
         if not holding:
             return None
         container = self.choices.pick(holding)
-        return encode(deny(self.choices.pick(sorted(items[container])), [container]))
+        return encode(forbid(self.choices.pick(sorted(items[container])), [container]))
 
     def tail(self) -> List[bytes]:
         """Labels of new items, then rules that show who holds them, and some other items."""
@@ -92,8 +92,8 @@ class LogGenerator(Generator):
         holders = self.tracker.state.holders(item)
         some = {self.choices.pick(holders) for _ in range(TAIL_HOLDERS)} if holders else set()
         others = [container for container in CONTAINERS if container not in holders]
-        probes = [encode(deny(item, [holder])) for holder in sorted(some)]
-        probes.append(encode(deny(item, others)))
+        probes = [encode(forbid(item, [holder])) for holder in sorted(some)]
+        probes.append(encode(forbid(item, others)))
         return [self._answered(probe) for probe in probes if not self._one_too_many(probe)]
 
     def _answered(self, record: bytes) -> bytes:

@@ -4,8 +4,8 @@ import time
 from itertools import zip_longest
 from typing import Callable, Iterable, Iterator, List, Optional, Tuple
 
-from model.limits import CALL_TAG, COMBINATION_TAG, FILES, HEADER_LENGTH, KINDS, LOG_LIMIT
-from model.limits import PROCESS_CONTAINERS, VALUE_LENGTHS
+from model.limits import CALL_TAG, FILES, HEADER_LENGTH, KINDS, LOG_LIMIT, PROCESS_CONTAINERS
+from model.limits import SEPARATE_TAG, VALUE_LENGTHS
 from model.logtext import record_text, split_records
 from model.proposals import ROLES
 from model.records import read_frame
@@ -93,7 +93,7 @@ def roles_of(record: bytes) -> List[Tuple[int, str]]:
     if not frame_is_right(record):
         return []
     last = len(record) - 1
-    if record[0] == COMBINATION_TAG:
+    if record[0] == SEPARATE_TAG:
         return [(HEADER_LENGTH, "item"), (HEADER_LENGTH + 1, "item"), (last, "container")]
     if record[0] != CALL_TAG:
         return [(HEADER_LENGTH, "item"), (last, "container")]
@@ -146,7 +146,7 @@ def renumbered(record: bytes, role: str, old: int, new: int) -> bytes:
 
 def has_set(record: bytes) -> bool:
     """Whether a record of the right length has a container set."""
-    return record[0] not in (CALL_TAG, COMBINATION_TAG)
+    return record[0] not in (CALL_TAG, SEPARATE_TAG)
 
 
 def exchanged(record: bytes, old: int, new: int) -> bytes:

@@ -9,7 +9,7 @@ from xml.etree import ElementTree
 from model import limits
 from model.limits import Kind
 from model.logtext import assemble
-from model.records import Call, combination, deny, encode, limit
+from model.records import Call, confine, encode, forbid, separate
 from tests.tools.session import LOGS, STORIES, Session, logtool, story_names, story_steps
 from tools import boxes
 from tools.draw import dot_text, svg_text
@@ -117,8 +117,8 @@ def crowded_log() -> bytes:
         records += [Call(Kind.MAP_READ, process, 5), Call(Kind.MAP_READ, process, 25)]
     records += [Call(Kind.LINK, 0, 0, name) for name in range(41, 128, 2)]
     records += [Call(Kind.LABEL, 0, 8, item) for item in range(64)]
-    records += [deny(item, range(0, 64, 3), 1, 3) for item in range(49, 63)]
-    records += [limit(item, limits.CONTAINERS) for item in range(18)] + [combination(62, 63)]
+    records += [forbid(item, range(0, 64, 3), 1, 3) for item in range(49, 63)]
+    records += [confine(item, limits.CONTAINERS) for item in range(18)] + [separate(62, 63)]
     return b"".join(map(encode, records))
 
 

@@ -373,14 +373,14 @@ MOODS = [
 ]
 
 # Calls that break a rule.
-DENY = "forbid item=1 in=panel inhibit\n"
+FORBID = "forbid item=1 in=panel inhibit\n"
 DIVERT = "forbid item=1 in=panel divert=port\n"
 NOT_IN_USE = "forbid item=1 in=panel divert=40\n"
 BOTH = "forbid item=1 in=panel divert=port\nforbid item=1 in=port inhibit\n"
-FAR = DENY + HELD + "device 0 descriptor=1 device=panel\nmap-both 0 descriptor=1\n"
+FAR = FORBID + HELD + "device 0 descriptor=1 device=panel\nmap-both 0 descriptor=1\n"
 STOPPED = [
     (
-        DENY + PANEL + "write 0 descriptor=1",
+        FORBID + PANEL + "write 0 descriptor=1",
         [
             "inhibit 0: it would break rule 0, and nothing is done",
             "rule 0 (record 1): item 1 may not be in device 1 (panel)",

@@ -6,7 +6,7 @@ from xml.etree import ElementTree
 
 from model import tracker
 from model.choices import Choices
-from model.limits import CONTAINERS, DENY_TAG, DEVICES, FILES, KINDS, RECORD_REFUSALS, Kind
+from model.limits import CONTAINERS, DEVICES, FILES, FORBID_TAG, KINDS, RECORD_REFUSALS, Kind
 from model.limits import process_container
 from model.logtext import assemble_line
 from model.records import Call, Rule, encode, read_frame
@@ -278,7 +278,7 @@ def rule_fault(step: Step, offered: Rule) -> str:
 
 def forbidden(rule: Rule) -> Set[int]:
     """The containers that a rule forbids its item."""
-    return set(rule.containers) if rule.tag == DENY_TAG else {*CONTAINERS} - rule.containers
+    return set(rule.containers) if rule.tag == FORBID_TAG else {*CONTAINERS} - rule.containers
 
 
 def offer_faults(step: Step, text: str) -> Iterator[str]:
