@@ -5,8 +5,8 @@ from typing import Optional
 from model.choices import Choices
 from model.limits import ACTIONS, CALL_TAG, CONFINE_TAG, CONTAINERS, DEVICES, FORBID_TAG, ITEMS
 from model.limits import KINDS, PROCESSES, RULE_LIMIT, SEPARATE_TAG, VALUE_LENGTHS, Kind
-from model.proposals import FIELDS, Proposer
-from model.records import Call, Rule, encode, frame_bytes, separate
+from model.proposals import Proposer
+from model.records import CALL_FIELDS, Call, Rule, encode, frame_bytes, separate
 
 # Tags beside the known ones, those of later papers first.
 OTHER_TAGS = [*range(0x14, 0x1C), 0x00, 0x01, 0x0F, 0x1C, 0x20, 0x7F, 0x80, 0x90, 0xFF]
@@ -51,14 +51,14 @@ class FaultMaker:
     def unknown_kind(self) -> bytes:
         """A kind outside 1 to 19, the other fields of any value."""
         kind = self.choices.pick([0, KINDS[-1] + 1, 255, self.choices.pick(range(20, 256))])
-        return encode(Call(kind, *(self.choices.pick(EDGES) for _ in FIELDS)))
+        return encode(Call(kind, *(self.choices.pick(EDGES) for _ in CALL_FIELDS)))
 
     def flawed_call(self) -> Optional[bytes]:
         """A call with one to three fields that do not fit the state."""
         call = self.proposer.call(self.choices.pick(KINDS))
         if call is None:
             return None
-        fields = [self.choices.pick(FIELDS) for _ in range(self.choices.pick([1, 1, 2, 3]))]
+        fields = [self.choices.pick(CALL_FIELDS) for _ in range(self.choices.pick([1, 1, 2, 3]))]
         return encode(self.proposer.flawed(call, fields, self.choices.chance(0.25)))
 
     def taken_and_missing(self) -> Optional[bytes]:

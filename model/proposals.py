@@ -6,10 +6,8 @@ from model.choices import Choices
 from model.limits import ACTIONS, CONFINE_TAG, CONTAINERS, DESCRIPTORS, DEVICES, DIVERT_ACTION
 from model.limits import FILES, FORBID_TAG, INHIBIT_ACTION, ITEMS, NAMES, PROCESSES, SEPARATE_TAG
 from model.limits import Kind, process_container
-from model.records import Call, Rule, confine, forbid, separate
+from model.records import CALL_FIELDS, Call, Rule, confine, forbid, separate
 from model.tracker import FIELD_RANGES, State, Tracker, substitutes
-
-FIELDS = Call._fields[1:]
 
 # What each field of a call names in the present state.
 ROLES: Dict[int, Tuple[str, str, str, str]] = {
@@ -132,7 +130,7 @@ class Proposer:
         """The call with some fields in the wrong state or outside their range."""
         changes = {}
         for name in fields:
-            index = FIELDS.index(name)
+            index = CALL_FIELDS.index(name)
             allowed = FIELD_RANGES[call.kind][index]
             fitting = self.fitting(ROLES[call.kind][index], call.process)
             wrong = [value for value in allowed if value not in fitting]

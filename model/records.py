@@ -21,6 +21,9 @@ class Call(NamedTuple):
         return process_container(self.process)
 
 
+CALL_FIELDS = Call._fields[1:]  # those after the kind
+
+
 class Rule(NamedTuple):
     """A rule; the container set is empty for one that separates."""
 
@@ -29,6 +32,9 @@ class Rule(NamedTuple):
     containers: FrozenSet[int]
     action: int
     substitute: int
+
+
+RULE_ITEMS = ("first", "second")  # the items of a rule as fields
 
 
 class Frame(NamedTuple):
@@ -85,12 +91,24 @@ def decode_rule(tag: int, value: bytes) -> Rule:
     return Rule(tag, (value[0],), containers, action, substitute)
 
 
-def read_frame(log: bytes, position: int = 0) -> Optional[Frame]:
-    """Measure the record at a position; None if it runs past the end."""
+def decode(frame: Frame) -> Union[Call, Rule]:
+    """The call or the rule in a record of a known tag and the right length."""
+    if frame.tag == CALL_TAG:
+        return decode_call(frame.value)
+    return decode_rule(frame.tag, frame.value)
+
+
+def stated_length(log: bytes, position: int = 0) -> int:
+    """How long the record at a position is to be; that of a header if it ends within that."""
     start = position + HEADER_LENGTH
     if start > len(log):
-        return None
-    end = start + int.from_bytes(log[position + 1 : start], "big")
+        return HEADER_LENGTH
+    return HEADER_LENGTH + int.from_bytes(log[position + 1 : start], "big")
+
+
+def read_frame(log: bytes, position: int = 0) -> Optional[Frame]:
+    """Measure the record at a position; None if it runs past the end."""
+    end = position + stated_length(log, position)
     if end > len(log):
         return None
-    return Frame(log[position], log[start:end], end)
+    return Frame(log[position], log[position + HEADER_LENGTH : end], end)

@@ -121,13 +121,11 @@ def map_both_only_reads(state: State, call: Call) -> None:
 right_exit = tracker.EFFECTS[Kind.EXIT]
 right_fork = tracker.EFFECTS[Kind.FORK]
 right_map_both = tracker.EFFECTS[Kind.MAP_BOTH]
-right_is_broken = tracker.is_broken
+right_broken_places = tracker.broken_places
 
 
-def broken_outside_processes(state: State, rule: Rule) -> bool:
-    seen = state.copy()
-    seen.items.update(dict.fromkeys(PROCESS_CONTAINERS, NO_ITEMS))
-    return right_is_broken(seen, rule)
+def broken_outside_processes(state: State, rule: Rule) -> List[int]:
+    return [c for c in right_broken_places(state, rule) if c not in PROCESS_CONTAINERS]
 
 
 def give_to_all(state: State, container: int, given: frozenset) -> None:
@@ -143,7 +141,7 @@ UNSAFE = {
     "fork without items": lambda: wrong_effect(Kind.FORK, fork_without_items),
     "map both only reads": lambda: wrong_effect(Kind.MAP_BOTH, map_both_only_reads),
     "rules spare processes": lambda: mock.patch.object(
-        tracker, "is_broken", broken_outside_processes
+        tracker, "broken_places", broken_outside_processes
     ),
 }
 INEXACT = {

@@ -3,10 +3,12 @@
 from typing import List, Set, Tuple, Union
 
 from model.checks import Checks, Options
-from model.limits import CALL_TAG, CONTAINERS, FORBID_TAG, Kind, Refusal
+from model.limits import ACTIONS, CALL_TAG, CONTAINERS, FORBID_TAG, ITEMS, KINDS, PROCESSES, Kind
+from model.limits import Refusal
 from model.records import Call, Rule, confine, encode, forbid, frame_bytes, read_frame, separate
 from model.test_runs import allows
-from model.tracker import Tracker, call_refusals, frame_refusals, refused, rule_refusals
+from model.tracker import CONTAINER, DESCRIPTOR, LINK, NAME, PROCESS, Fact, Tracker, frame_refusals
+from model.tracker import record_facts, refusals, refused
 
 # Processes 0 and 1 live; name 5 and descriptor 0 lead to 24, which holds items 1
 # and 2; descriptor 1 leads to device 1; 16 lies in device 2 alone.
@@ -149,6 +151,35 @@ def check_cases(checks: Checks, setup: list, cases: List[Case]) -> None:
         checks.equal(f"{record}: state", tracker.state, before)
 
 
+FACT_CASES: List[Tuple[Union[Call, Rule], Fact]] = [
+    (Call(20), Fact(Refusal.UNKNOWN_KIND, "kind", allowed=KINDS)),
+    (Call(Kind.START, 16), Fact(Refusal.OUT_OF_RANGE, "process", allowed=PROCESSES)),
+    (Call(Kind.EXIT, 15), Fact(Refusal.DEAD_PROCESS, "process", PROCESS)),
+    (Call(Kind.FORK, 0, 1), Fact(Refusal.TAKEN, "a", PROCESS)),
+    (Call(Kind.CREATE, 0, 6, 0, 25), Fact(Refusal.TAKEN, "b", DESCRIPTOR, containers=(24,))),
+    (Call(Kind.CREATE, 0, 5, 2, 25), Fact(Refusal.TAKEN, "a", NAME, containers=(24,))),
+    (Call(Kind.CREATE, 0, 6, 2, 24), Fact(Refusal.TAKEN, "c", CONTAINER)),
+    (Call(Kind.READ, 1, 0), Fact(Refusal.MISSING, "a", DESCRIPTOR)),
+    (Call(Kind.UNLINK, 0, 6), Fact(Refusal.MISSING, "a", NAME)),
+    (Call(Kind.UNMAP, 0, 24), Fact(Refusal.MISSING, "a", LINK)),
+    (Call(Kind.LABEL, 0, 25, 1), Fact(Refusal.MISSING, "a", CONTAINER)),
+    (Call(Kind.PIPE, 0, 3, 3, 25), Fact(Refusal.SAME_TWICE, "b", DESCRIPTOR)),
+    (Call(Kind.TRUNCATE, 0, 1), Fact(Refusal.NO_FILE, "a", DESCRIPTOR, containers=(1,))),
+    (forbid(1, [], 2), Fact(Refusal.UNKNOWN_KIND, "action", allowed=ACTIONS)),
+    (separate(1, 64), Fact(Refusal.OUT_OF_RANGE, "second", allowed=ITEMS)),
+    (forbid(1, [], 0, 3), Fact(Refusal.OUT_OF_RANGE, "substitute", allowed={0})),
+    (separate(3, 3), Fact(Refusal.SAME_TWICE, "second")),
+    (confine(16, [3, 24]), Fact(Refusal.BROKEN_ALREADY, containers=(2,))),
+    (separate(1, 2), Fact(Refusal.BROKEN_ALREADY, containers=(24,))),
+]
+
+
+def test_facts(checks: Checks, options: Options) -> None:
+    state = allows(SETUP).state
+    for record, fact in FACT_CASES:
+        checks.equal(f"{record}: facts", list(record_facts(state, record)), [fact])
+
+
 def test_calls_refused(checks: Checks, options: Options) -> None:
     check_cases(checks, SETUP, CALL_CASES)
 
@@ -216,7 +247,7 @@ def test_call_ranges(checks: Checks, options: Options) -> None:
             accepted = []
             for value in range(256):
                 call = Call(kind, *low[:index], value, *low[index + 1 :])
-                if Refusal.OUT_OF_RANGE not in call_refusals(state, call):
+                if Refusal.OUT_OF_RANGE not in refusals(record_facts(state, call)):
                     accepted.append(value)
             checks.equal(f"kind {kind}, field {index}: range", accepted, list(RANGES[letter]))
 
@@ -232,16 +263,11 @@ def test_rule_ranges(checks: Checks, options: Options) -> None:
         ("substitute of 1", lambda value: confine(1, CONTAINERS, 1, value), diverted),
     ]
     for name, make, expected in tables:
-        accepted = [
-            v for v in range(256) if Refusal.OUT_OF_RANGE not in rule_refusals(state, make(v))
-        ]
+        facts = {value: record_facts(state, make(value)) for value in range(256)}
+        accepted = [v for v in facts if Refusal.OUT_OF_RANGE not in refusals(facts[v])]
         checks.equal(f"rule {name}: range", accepted, expected)
-    rules = [forbid(1, [], action) for action in range(256)]
-    actions = [
-        rule.action
-        for rule in rules
-        if Refusal.UNKNOWN_KIND not in rule_refusals(state, rule)
-    ]
+    facts = {action: record_facts(state, forbid(1, [], action)) for action in range(256)}
+    actions = [a for a in facts if Refusal.UNKNOWN_KIND not in refusals(facts[a])]
     checks.equal("rule action: range", actions, [0, 1])
 
 

@@ -5,12 +5,13 @@ from typing import Dict, List, NamedTuple, Optional, Tuple
 from model.limits import RULE_LIMIT, Kind, Refusal
 from model.logtext import REFUSAL_WORDS, record_text
 from model.records import Call, Rule, encode
-from model.tracker import ALLOW, Answer, broken_rules, divert, divert_obstacle, judge, load_rule
+from model.tracker import ALLOW, Answer, broken_places, broken_rules, divert, divert_obstacle, judge
+from model.tracker import load_rule
 from tools.changes import Changes, changes_between
 from tools.names import NO_OWN, Own
 from tools.phrases import OBSTACLES, answer_meaning, hop_text, rule_text, sentence
 from tools.provenance import DONE, Moment, Origin, Step, chain, gifts_of
-from tools.reasons import Case, Reason, broken_places, failed_text, reason_of
+from tools.reasons import Case, Reason, failed_text, reason_of
 from tools.words import Words, joined, numbers_text, plural, short
 
 SHOWN_BYTES = 16  # of a raw value
@@ -143,8 +144,8 @@ def refusal_lines(words: Words, step: Step) -> List[Line]:
         word = REFUSAL_WORDS[reason.number]
         lines.append((0, f"with that mended, refused with {reason.number} ({word}): {failed}"))
     if number == Refusal.BROKEN_ALREADY:
-        places = broken_places(step.before.state, step.record)
-        lines += place_lines(words, step.before, step.record, places[0], step.number)
+        place = first.facts[0].containers[0]
+        lines += place_lines(words, step.before, step.record, place, step.number)
     return lines + mended_lines(step, first)
 
 

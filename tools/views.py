@@ -4,10 +4,9 @@ from typing import Dict, FrozenSet, Iterable, List, NamedTuple, Optional, Set
 
 from model.limits import CONTAINERS, DEVICES, DIVERT_ACTION, FORBID_TAG, PROCESS_CONTAINERS
 from model.limits import process_container
-from model.tracker import ALLOW, State, forbids
+from model.tracker import ALLOW, State, broken_places, forbids
 from tools.changes import Changes, changes_between
 from tools.provenance import BREAKING, DONE, Link, Moment, Step, fresh, gifts_of
-from tools.reasons import broken_places
 
 
 class View(NamedTuple):

@@ -11,7 +11,7 @@ from tests.tools.session import LOGS, STORIES, Result, Session, logtool, story_l
 from tools.explain import Explanation, explain
 from tools.phrases import CALLS
 from tools.provenance import steps_of
-from tools.reasons import TESTS
+from tools.reasons import WORDINGS
 
 # Short logs that others go on from.
 LIVE = "start 0\n"
@@ -462,7 +462,7 @@ def test_fixed_logs(session: Session) -> None:
     kinds = {assemble(log.splitlines()[-1].encode())[3] for log, _ in SENTENCES}
     session.checks.true("a sentence for every kind", kinds >= set(KINDS), str(kinds))
     session.checks.equal("words for every kind", set(CALLS), set(KINDS))
-    session.checks.equal("tests for every refusal", set(TESTS), set(RECORD_REFUSALS))
+    session.checks.equal("wordings for every refusal", set(WORDINGS), set(RECORD_REFUSALS))
 
 
 def said_of(log: str) -> Explanation:
