@@ -284,7 +284,7 @@ CONTAINER = "container"
 LINK = "link"  # of the caller with a container
 
 # Row 7, taken: the fields that must name something free.
-NEW: Dict[int, Dict[str, str]] = {
+NEW_THINGS: Dict[int, Dict[str, str]] = {
     Kind.START: {"process": PROCESS},
     Kind.OPEN: {"b": DESCRIPTOR},
     Kind.CREATE: {"b": DESCRIPTOR, "a": NAME, "c": CONTAINER},
@@ -295,8 +295,8 @@ NEW: Dict[int, Dict[str, str]] = {
     Kind.FORK: {"a": PROCESS},
 }
 
-# Row 8, missing: what field a must name that is present.
-NEEDED: Dict[int, str] = {
+# Row 8, missing: the kinds whose field a must name something present, and what it names.
+NEEDED_THINGS: Dict[int, str] = {
     Kind.OPEN: NAME,
     Kind.DUP: DESCRIPTOR,
     Kind.CLOSE: DESCRIPTOR,
@@ -327,7 +327,7 @@ class Fact(NamedTuple):
 
 
 def is_there(state: State, call: Call, thing: str, number: int) -> bool:
-    """Whether a process is live, a descriptor open, a name bound, .. for a call."""
+    """Whether a thing is live, open, bound, in use or linked with the caller."""
     if thing == PROCESS:
         return number in state.live
     if thing == LINK:
@@ -367,12 +367,12 @@ def state_facts(state: State, call: Call) -> Iterator[Fact]:
     """The tests of rows 6 to 8 that a call fails."""
     if call.kind not in NEEDS_NO_CALLER and call.process not in state.live:
         yield Fact(Refusal.DEAD_PROCESS, "process", PROCESS)
-    for field, thing in NEW.get(call.kind, {}).items():
+    for field, thing in NEW_THINGS.get(call.kind, {}).items():
         number = getattr(call, field)
         if is_there(state, call, thing, number):
             target = leads(state, call, thing, number)
             yield Fact(Refusal.TAKEN, field, thing, containers=target)
-    needed = NEEDED.get(call.kind)
+    needed = NEEDED_THINGS.get(call.kind)
     if needed and not is_there(state, call, needed, call.a):
         yield Fact(Refusal.MISSING, "a", needed)
 

@@ -10,12 +10,12 @@ makes the call, what it is done to and which item it is about stay.
 from typing import Any, Callable, Dict, List, NamedTuple, Optional, Sequence, Tuple
 
 from model import limits
-from model.limits import DESCRIPTORS, FILES, HEADER_LENGTH, ITEMS, NAMES, PROCESSES
-from model.limits import RULE_LIMIT, VALUE_LENGTHS, Kind, Refusal
+from model.limits import DESCRIPTORS, FILES, HEADER_LENGTH, ITEMS, NAMES, PROCESSES, RULE_LIMIT
+from model.limits import VALUE_LENGTHS, Kind, Refusal
 from model.logtext import FORMS, Form
 from model.records import CALL_FIELDS, RULE_ITEMS, Call, Rule, read_frame, stated_length
-from model.tracker import CONTAINER, DESCRIPTOR, LINK, NAME, NEW, PROCESS, UNUSED, Fact, State
-from model.tracker import first_refusal, forbids, frame_facts, record_facts, refusals
+from model.tracker import CONTAINER, DESCRIPTOR, LINK, NAME, NEW_THINGS, PROCESS, UNUSED, Fact
+from model.tracker import State, first_refusal, forbids, frame_facts, record_facts, refusals
 from tools.phrases import WORD_OF_KIND
 from tools.words import Words, joined, numbers_text, plural, set_words
 
@@ -103,7 +103,7 @@ FIELD_WORDS = {form.lead[0]: field_words(form) for form in FORMS if form.tag == 
 def free_numbers(case: Case, field: str) -> List[int]:
     """The free numbers for something new that a field of a call names; none if it names none."""
     state = case.state
-    thing = NEW.get(case.record.kind, {}).get(field)
+    thing = NEW_THINGS.get(case.record.kind, {}).get(field)
     if thing == PROCESS:
         return [process for process in PROCESSES if process not in state.live]
     if thing == DESCRIPTOR:
