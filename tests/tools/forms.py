@@ -206,3 +206,16 @@ def test_bad_texts(session: Session) -> None:
             good = ran.status == 2 and not ran.output and part in ran.message
             good = good and "add --bytes" in ran.message and "Traceback" not in ran.message
             session.checks.true(f"{words} on {text!r}", good, str(ran))
+
+
+def test_other_packages(session: Session) -> None:
+    """Installed packages with the names of the repository's own are not taken for them."""
+    story = LOGS / "rowers.log.txt"
+    with tempfile.TemporaryDirectory() as folder:
+        for name in ("model", "tools", "tests", "bench"):
+            (Path(folder) / name).mkdir()
+            (Path(folder) / name / "__init__.py").write_text("raise ImportError('another one')\n")
+        env = environment({"PYTHONPATH": folder})
+        for words in (words.format(story) for words in READING):
+            found = [run(session, words), run(session, words, env=env, cwd=folder)]
+            check_alike(session, f"{words}, beside other packages", found)
