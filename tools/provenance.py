@@ -8,8 +8,8 @@ a chain that ends at a label and that later records cannot change.
 from typing import Any, Dict, Iterator, List, NamedTuple, Optional, Tuple
 
 from model.contents import gifts
-from model.limits import CALL_TAG, VALUE_LENGTHS, Kind, process_container
-from model.records import Call, decode_call, decode_rule, read_frame
+from model.limits import VALUE_LENGTHS, Kind, process_container
+from model.records import Call, decode, read_frame
 from model.tracker import ALLOW, Answer, State, Tracker, work_out
 
 Link = Tuple[int, int]
@@ -65,9 +65,7 @@ def record_of(data: bytes) -> Any:
     frame = read_frame(data)
     if frame is None or len(frame.value) != VALUE_LENGTHS.get(frame.tag):
         return None
-    if frame.tag == CALL_TAG:
-        return decode_call(frame.value)
-    return decode_rule(frame.tag, frame.value)
+    return decode(frame)
 
 
 def gifts_of(call: Call, answer: Answer, before: State) -> List[Tuple[Optional[int], int]]:
