@@ -9,10 +9,11 @@ of target/bin/test_calls with the call and one without it.
 from pathlib import Path
 from typing import Dict, List, NamedTuple
 
-from counting import INPUT_BUFFER, BadRun, Report, instructions, peak_of, row, rule_of, say
-from states import KIND_NAMES, ROOT, Case, small_cases, worst_cases
-from limits import UNKNOWN_KIND
-from records import Call
+from bench.counting import INPUT_BUFFER, BadRun, Report, instructions, peak_of, row, rule_of, say
+from bench.states import KIND_NAMES, Case, small_cases, worst_cases
+from model import ROOT
+from model.limits import Refusal
+from model.records import Call
 
 IN_PLACE = ROOT / "target" / "bin" / "bench_calls"
 BY_VALUE = ROOT / "target" / "bin" / "test_calls"
@@ -37,8 +38,8 @@ def in_place(case: Case) -> int:
         if line != "0":
             raise BadRun(f"{call} of the state or the measured call gets {line}, not 0")
     with_unknown, lines = instructions(IN_PLACE, input_of([*case.before, UNKNOWN]))
-    if lines[len(case.before)] != str(UNKNOWN_KIND):
-        raise BadRun(f"an unknown kind gets {lines[len(case.before)]}, not {UNKNOWN_KIND}")
+    if lines[len(case.before)] != str(Refusal.UNKNOWN_KIND):
+        raise BadRun(f"an unknown kind gets {lines[len(case.before)]}, not {Refusal.UNKNOWN_KIND}")
     return with_call - with_unknown
 
 

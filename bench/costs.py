@@ -2,24 +2,13 @@
 
 from typing import Dict, List, NamedTuple, Tuple
 
-from counting import row, rule_of, say
-from logcases import (
-    CONFINING,
-    DIVERTED,
-    INHIBITED,
-    PLACES,
-    RULE_TABLES,
-    SEEDS,
-    LogCase,
-    call_cases,
-    growing_log,
-    other_cases,
-    write_case,
-)
-from programs import Pair, both, costs, log_cost
-from states import D_FIRST, GIVER, KIND_NAMES, N_FIRST, link_of_chain
-from limits import CREATE, EXIT, FILES, LABEL, OPEN, PROCESSES, START, WRITE, process_container
-from records import Call, encode
+from bench.counting import row, rule_of, say
+from bench.logcases import CONFINING, DIVERTED, INHIBITED, PLACES, RULE_TABLES, SEEDS, LogCase
+from bench.logcases import call_cases, growing_log, other_cases, write_case
+from bench.programs import Pair, both, costs, log_cost
+from bench.states import D_FIRST, GIVER, KIND_NAMES, N_FIRST, link_of_chain
+from model.limits import FILES, PROCESSES, Kind, process_container
+from model.records import Call, encode
 
 STATES = ("small", "worst")
 RULE_COUNTS = (0, 32)
@@ -56,18 +45,18 @@ class Costs(NamedTuple):
 
 def crowd(size: int) -> List[Call]:
     """So many live processes, each with a descriptor to one file."""
-    calls = [Call(START, process) for process in range(size)]
-    calls.append(Call(CREATE, 0, N_FIRST, D_FIRST, FILES[0]))
-    return calls + [Call(OPEN, process, N_FIRST, D_FIRST) for process in range(1, size)]
+    calls = [Call(Kind.START, process) for process in range(size)]
+    calls.append(Call(Kind.CREATE, 0, N_FIRST, D_FIRST, FILES[0]))
+    return calls + [Call(Kind.OPEN, process, N_FIRST, D_FIRST) for process in range(1, size)]
 
 
 def crowd_cases(size: int) -> Dict[str, LogCase]:
     """Records among so many processes."""
-    before = [*crowd(size), Call(LABEL, 0, process_container(0), 0)]
+    before = [*crowd(size), Call(Kind.LABEL, 0, process_container(0), 0)]
     measured = {
-        "write": Call(WRITE, 0, D_FIRST),
-        "create": Call(CREATE, 0, 1, 1, FILES[1]),
-        "exit": Call(EXIT, 0),
+        "write": Call(Kind.WRITE, 0, D_FIRST),
+        "create": Call(Kind.CREATE, 0, 1, 1, FILES[1]),
+        "exit": Call(Kind.EXIT, 0),
     }
     return {name: LogCase([], before, encode(call), "allow") for name, call in measured.items()}
 
@@ -75,10 +64,10 @@ def crowd_cases(size: int) -> Dict[str, LogCase]:
 def chain_cases(links: int) -> Dict[str, LogCase]:
     """Labels of the first of a chain of so many links: process, file, process and so on."""
     processes = PROCESSES[: -links // 2 - 2 : -1]
-    before = [Call(START, process) for process in processes]
+    before = [Call(Kind.START, process) for process in processes]
     for giver, receiver in zip(processes, processes[1:]):
         before += link_of_chain(giver, receiver)
-    label = Call(LABEL, 0, process_container(GIVER), 0)
+    label = Call(Kind.LABEL, 0, process_container(GIVER), 0)
     return {
         "label, a new item": LogCase([], before, encode(label), "allow"),
         "label, the same again": LogCase([], [*before, label], encode(label), "allow"),
@@ -89,8 +78,8 @@ def table_cases(size: int) -> Dict[str, LogCase]:
     """Records of the small state with so many rules."""
     rules = RULE_TABLES["the three in turn"][:size]
     return {
-        "start": call_cases(rules, "small", START)[0],
-        "write, an item gained": call_cases(rules, "small", WRITE)[-1],
+        "start": call_cases(rules, "small", Kind.START)[0],
+        "write, an item gained": call_cases(rules, "small", Kind.WRITE)[-1],
     }
 
 
@@ -129,7 +118,7 @@ def measured_costs() -> Costs:
         say(f"measured {name} in both programs")
     for state, places in PLACES.items():
         for table, rules in RULE_TABLES.items():
-            found.judging[state, table] = costs(call_cases(rules, state, WRITE))
+            found.judging[state, table] = costs(call_cases(rules, state, Kind.WRITE))
         for name in other_cases(places[0]):
             found.others[state, name] = costs([other_cases(place)[name] for place in places])
         found.writes[state] = costs([write_case(place) for place in places])
@@ -164,7 +153,7 @@ def beside_writes(found: Costs, state: str, name: str) -> Pair:
 
 def judging_of(found: Costs, state: str, table: str) -> Pair:
     """What a full table adds to the write of the judging table."""
-    return less(found.judging[state, table], found.calls[state, 0, WRITE])
+    return less(found.judging[state, table], found.calls[state, 0, Kind.WRITE])
 
 
 def judging_table(found: Costs) -> List[str]:

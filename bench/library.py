@@ -4,10 +4,12 @@ import subprocess
 from pathlib import Path
 from typing import Dict, List, NamedTuple, Tuple
 
-from counting import BadRun, Report, instructions, peak_of, prose, row, rule_of, say
-from logcases import CASES, CONFINING
-from states import KIND_NAMES, ROOT, Case
-from records import Rule, encode
+from bench.counting import BadRun, Report, instructions, peak_of, prose, row, rule_of, say
+from bench.logcases import CASES, CONFINING
+from bench.states import KIND_NAMES, Case
+from model import ROOT
+from model.limits import Kind
+from model.records import Rule, encode
 
 ARCHIVE = ROOT / "target" / "staticlib" / "libhook.a"
 SOURCE = ROOT / "bench" / "hookcost.c"
@@ -99,7 +101,7 @@ def report() -> Report:
     """The part of the document on the hook and the library."""
     build()
     found, peaks = costs(), stacks()
-    log = log_of([], CASES["small"][1][0])
+    log = log_of([], CASES["small"][Kind.START][0])
     copy = counted(COPY, log) - counted(NONE, log)
     more = sorted({c.hook - c.in_place for c in found.values()})
     by = f"{more[0]:,}" if len(more) == 1 else f"{more[0]:,} to {more[-1]:,}"

@@ -6,74 +6,24 @@ there, so no rule is broken but where a record is to break one.
 """
 
 import functools
-import sys
 from typing import Dict, List, NamedTuple
 
-from states import (
-    D_LAST,
-    FILLER,
-    FIRST,
-    FREE,
-    GIVER,
-    HIDDEN,
-    KIND_NAMES,
-    N_LAST,
-    ROOT,
-    Case,
-    small_cases,
-    small_laden_cases,
-    worst_cases,
-    worst_laden_cases,
-)
-
-sys.path.insert(0, str(ROOT / "tests" / "logtests"))
-
-from compare import model_lines  # noqa: E402
-from generate import MIXES  # noqa: E402
-from limits import (  # noqa: E402
-    BROKEN_ALREADY,
-    CALL_TAG,
-    CLOSE,
-    CONTAINERS,
-    CREATE,
-    CUT_SHORT,
-    DEAD_PROCESS,
-    DEVICE,
-    DEVICES,
-    DIVERT_ACTION,
-    EXIT,
-    FILES,
-    ITEMS,
-    LABEL,
-    MISSING,
-    NO_FILE,
-    OUT_OF_RANGE,
-    PROCESSES,
-    READ,
-    RULE_LIMIT,
-    RULES_FULL,
-    SAME_TWICE,
-    START,
-    TAKEN,
-    TRUNCATE,
-    UNKNOWN_KIND,
-    UNKNOWN_TAG,
-    UNLINK,
-    UNMAP,
-    WRITE,
-    WRONG_LENGTH,
-    process_container,
-)
-from randomlogs import LogGenerator  # noqa: E402
-from records import Call, Rule, combination, deny, encode, frame_bytes, limit  # noqa: E402
+from bench.states import D_LAST, FILLER, FIRST, FREE, GIVER, HIDDEN, KIND_NAMES, N_LAST, Case
+from bench.states import small_cases, small_laden_cases, worst_cases, worst_laden_cases
+from model.generate import MIXES
+from model.limits import CALL_TAG, CONTAINERS, DEVICES, DIVERT_ACTION, FILES, ITEMS, PROCESSES
+from model.limits import RULE_LIMIT, Kind, Refusal, process_container
+from model.records import Call, Rule, confine, encode, forbid, frame_bytes, separate
+from tests.logtests.compare import model_lines
+from tests.logtests.randomlogs import LogGenerator
 
 RULE_NUMBERS = range(RULE_LIMIT)
 LAST_RULE = RULE_NUMBERS[-1]
 
 # Full tables of rules that no state of a measured call breaks: one item each, or two.
-FORBIDDING = [deny(item, []) for item in RULE_NUMBERS]
-SEPARATING = [combination(item, RULE_LIMIT + item) for item in RULE_NUMBERS]
-CONFINING = [limit(item, CONTAINERS) for item in RULE_NUMBERS]
+FORBIDDING = [forbid(item, []) for item in RULE_NUMBERS]
+SEPARATING = [separate(item, RULE_LIMIT + item) for item in RULE_NUMBERS]
+CONFINING = [confine(item, CONTAINERS) for item in RULE_NUMBERS]
 RULE_TABLES = {
     "tag 11 hex, empty sets": FORBIDDING,
     "tag 12 hex": SEPARATING,
@@ -131,15 +81,15 @@ class Place(NamedTuple):
 
 def small_place() -> Place:
     """The small state: the write goes to a file, or else to a device."""
-    case = small_laden_cases()[WRITE]
+    case = small_laden_cases()[Kind.WRITE]
     file, device = FILES[0], DEVICES[3]
     return Place(case.before, case.call, file, device, 0, 1, 1, [], [], PROCESSES[-1], file)
 
 
 def worst_place(case: Case) -> Place:
     """The worst state: the search from the substitute takes as long as that from the file."""
-    label = Call(LABEL, 0, process_container(case.call.process), 0)
-    freeing = [Call(CLOSE, GIVER, D_LAST), Call(UNLINK, GIVER, N_LAST)]
+    label = Call(Kind.LABEL, 0, process_container(case.call.process), 0)
+    freeing = [Call(Kind.CLOSE, GIVER, D_LAST), Call(Kind.UNLINK, GIVER, N_LAST)]
     dead = PROCESSES[5]
     return Place(
         [*case.before, label],
@@ -150,7 +100,7 @@ def worst_place(case: Case) -> Place:
         D_LAST,
         N_LAST,
         freeing,
-        [Call(EXIT, dead)],
+        [Call(Kind.EXIT, dead)],
         dead,
         FILLER,
     )
@@ -158,7 +108,7 @@ def worst_place(case: Case) -> Place:
 
 PLACES: Dict[str, List[Place]] = {
     "small": [small_place()],
-    "worst": [worst_place(case) for case in CASES["worst"][WRITE]],
+    "worst": [worst_place(case) for case in CASES["worst"][Kind.WRITE]],
 }
 INHIBITED = f"write, inhibited by rule {LAST_RULE}"
 DIVERTED = f"write, diverted by rule {LAST_RULE}"
@@ -166,8 +116,8 @@ DIVERTED = f"write, diverted by rule {LAST_RULE}"
 
 def stopped_cases(place: Place) -> Dict[str, LogCase]:
     """The write, with the last of 32 rules against it."""
-    inhibiting = deny(0, [place.written])
-    diverting = deny(0, [place.written], DIVERT_ACTION, place.substitute)
+    inhibiting = forbid(0, [place.written])
+    diverting = forbid(0, [place.written], DIVERT_ACTION, place.substitute)
     write = encode(place.write)
     diverted = f"modify {LAST_RULE} {place.substitute}"
     return {
@@ -183,15 +133,15 @@ def write_case(place: Place) -> LogCase:
 
 def rule_cases(place: Place) -> Dict[str, LogCase]:
     """Rules that are loaded, and those that are refused for what is held."""
-    rule, wide = encode(CONFINING[0]), encode(deny(ITEMS[-1], CONTAINERS))
-    broken = encode(deny(0, [process_container(place.write.process)]))
+    rule, wide = encode(CONFINING[0]), encode(forbid(ITEMS[-1], CONTAINERS))
+    broken = encode(forbid(0, [process_container(place.write.process)]))
     last = f"rule {LAST_RULE}"
     return {
         "rule, loaded as number 0": LogCase([], place.before, rule, "rule 0"),
         f"rule, loaded as number {LAST_RULE}": LogCase(ALL_BUT_ONE, place.before, rule, last),
         "rule against all containers": LogCase(ALL_BUT_ONE, place.before, wide, last),
-        "rule, 32 are held": refusing(CONFINING, place.before, rule, RULES_FULL),
-        "rule, broken already": refusing(ALL_BUT_ONE, place.before, broken, BROKEN_ALREADY),
+        "rule, 32 are held": refusing(CONFINING, place.before, rule, Refusal.RULES_FULL),
+        "rule, broken already": refusing(ALL_BUT_ONE, place.before, broken, Refusal.BROKEN_ALREADY),
     }
 
 
@@ -203,19 +153,20 @@ def refusing(rules: List[Rule], before: List[Call], record: bytes, number: int) 
 def refused_cases(place: Place) -> Dict[str, LogCase]:
     """A record for each of the other refusals, with 32 rules held."""
     process, descriptor, free = place.process, place.descriptor, place.freeing
-    create = Call(CREATE, process, place.name, descriptor, place.used)
-    device = [*free, Call(DEVICE, process, descriptor, DEVICES[0])]
+    create = Call(Kind.CREATE, process, place.name, descriptor, place.used)
+    dead_read, truncate = Call(Kind.READ, place.dead), Call(Kind.TRUNCATE, process, descriptor)
+    device = [*free, Call(Kind.DEVICE, process, descriptor, DEVICES[0])]
     listed = [
-        ("header cut short", [], bytes([CALL_TAG, 0]), CUT_SHORT),
-        ("unknown tag", [], frame_bytes(0, b""), UNKNOWN_TAG),
-        ("wrong length", [], frame_bytes(CALL_TAG, b""), WRONG_LENGTH),
-        ("unknown kind", [], encode(Call(0)), UNKNOWN_KIND),
-        ("call out of range", [], encode(Call(START, PROCESSES.stop)), OUT_OF_RANGE),
-        ("read of a dead process", place.dying, encode(Call(READ, place.dead)), DEAD_PROCESS),
-        ("create, file in use", free, encode(create), TAKEN),
-        ("unmap, no link", [], encode(Call(UNMAP, process, FREE)), MISSING),
-        ("rule, items equal", [], encode(combination(1, 1)), SAME_TWICE),
-        ("truncate of a device", device, encode(Call(TRUNCATE, process, descriptor)), NO_FILE),
+        ("header cut short", [], bytes([CALL_TAG, 0]), Refusal.CUT_SHORT),
+        ("unknown tag", [], frame_bytes(0, b""), Refusal.UNKNOWN_TAG),
+        ("wrong length", [], frame_bytes(CALL_TAG, b""), Refusal.WRONG_LENGTH),
+        ("unknown kind", [], encode(Call(0)), Refusal.UNKNOWN_KIND),
+        ("call out of range", [], encode(Call(Kind.START, PROCESSES.stop)), Refusal.OUT_OF_RANGE),
+        ("read of a dead process", place.dying, encode(dead_read), Refusal.DEAD_PROCESS),
+        ("create, file in use", free, encode(create), Refusal.TAKEN),
+        ("unmap, no link", [], encode(Call(Kind.UNMAP, process, FREE)), Refusal.MISSING),
+        ("rule, items equal", [], encode(separate(1, 1)), Refusal.SAME_TWICE),
+        ("truncate of a device", device, encode(truncate), Refusal.NO_FILE),
     ]
     return {
         name: refusing(CONFINING, [*place.before, *calls], record, number)

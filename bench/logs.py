@@ -2,30 +2,13 @@
 
 from typing import Dict, List, NamedTuple, Tuple
 
-from costs import (
-    STATES,
-    Costs,
-    call_table,
-    growth_lines,
-    judging_table,
-    judgings,
-    measured_costs,
-    other_table,
-    stopped_text,
-)
-from counting import Report, prose, row, rule_of, say
-from machine import (
-    Machine,
-    box_table,
-    box_text,
-    measured_machine,
-    own_heap,
-    own_stack,
-    size_table,
-    wall_table,
-)
-from mixed import Mixed, largest_table, mean_table, measured_mixed, profile_table
-from programs import BASELINE, PROVED, Pair, build_baseline, most
+from bench.costs import STATES, Costs, call_table, growth_lines, judging_table, judgings
+from bench.costs import measured_costs, other_table, stopped_text
+from bench.counting import Report, prose, row, rule_of, say
+from bench.machine import Machine, box_table, box_text, measured_machine, own_heap, own_stack
+from bench.machine import size_table, wall_table
+from bench.mixed import Mixed, largest_table, mean_table, measured_mixed, profile_table
+from bench.programs import BASELINE, PROVED, Pair, build_baseline, most
 
 MOST_MEAN = 2500  # instructions of a record, over the random logs
 MOST_RECORD = 10_000  # instructions of any record found

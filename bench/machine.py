@@ -10,21 +10,13 @@ import time
 from pathlib import Path
 from typing import Dict, List, NamedTuple, Tuple
 
-from counting import INPUT_BUFFER, BadRun, Peak, kept, peak_of, row, rule_of, say
-from logcases import (
-    CASES,
-    CONFINING,
-    PLACES,
-    SEEDS,
-    TABLE_SIZES,
-    call_cases,
-    mixed_log,
-    other_cases,
-)
-from programs import BASELINE, IDLE, PROVED, Pair, Program, log_before
-from states import ROOT
-from compare import model_lines
-from randomlogs import largest_calls, largest_log
+from bench.counting import INPUT_BUFFER, BadRun, Peak, kept, peak_of, row, rule_of, say
+from bench.logcases import CASES, CONFINING, PLACES, SEEDS, TABLE_SIZES, call_cases, mixed_log
+from bench.logcases import other_cases
+from bench.programs import BASELINE, IDLE, PROVED, Pair, Program, log_before
+from model import ROOT
+from tests.logtests.compare import model_lines
+from tests.logtests.randomlogs import largest_calls, largest_log
 
 REPEATS = 401
 MODEL_REPEATS = 5

@@ -3,23 +3,13 @@
 from collections import Counter
 from typing import Dict, List, NamedTuple, Tuple
 
-from counting import instructions_by_function, row, rule_of, say, traced_costs
-from logcases import (
-    CONFINING,
-    DIVERTED,
-    MIX_NAMES,
-    PLACES,
-    RECORDS,
-    SEEDS,
-    TABLE_SIZES,
-    LogCase,
-    call_cases,
-    mixed_log,
-    stopped_cases,
-)
-from programs import BASELINE, IDLE, PROVED, Pair, Program, both, counted, log_before, log_cost
-from limits import START
-from logtext import record_text, split_records
+from bench.counting import instructions_by_function, row, rule_of, say, traced_costs
+from bench.logcases import CONFINING, DIVERTED, MIX_NAMES, PLACES, RECORDS, SEEDS, TABLE_SIZES
+from bench.logcases import LogCase, call_cases, mixed_log, stopped_cases
+from bench.programs import BASELINE, IDLE, PROVED, Pair, Program, both, counted, log_before
+from bench.programs import log_cost
+from model.limits import Kind
+from model.logtext import record_text, split_records
 
 TRACED_RULES = TABLE_SIZES[-1]  # of the logs whose every record is looked at
 TRACED_TOP = 3  # records of a traced log that are measured exactly
@@ -114,7 +104,7 @@ Profile = Dict[str, Tuple[Counter, int]]  # instructions by function and how man
 def profile_of(program: Program) -> Profile:
     """A random log and some records by function."""
     log = mixed_log(SEEDS[0], PROFILED, TRACED_RULES)
-    starts = [call_cases(rules, "worst", START)[0] for rules in ([], CONFINING)]
+    starts = [call_cases(rules, "worst", Kind.START)[0] for rules in ([], CONFINING)]
     diverted = stopped_cases(PLACES["worst"][0])[DIVERTED]
     return {
         f"Random log, {PROFILED}, {TRACED_RULES} rules": (

@@ -5,10 +5,11 @@ import subprocess
 from pathlib import Path
 from typing import Callable, List, NamedTuple, Sequence, Tuple
 
-from counting import BadRun, instructions
-from logcases import LogCase
-from states import ROOT
-from records import encode, frame_bytes
+from bench.counting import BadRun, instructions
+from bench.logcases import LogCase
+from model import ROOT
+from model.limits import Refusal
+from model.records import encode, frame_bytes
 
 BUILD = ROOT / "bench" / "baseline" / "build"
 BUILD_SECONDS = 120
@@ -27,7 +28,7 @@ BASELINE = Program("baseline", ROOT / "bench" / "baseline" / "target" / "baselin
 # A record of unknown tag: it gets a line and changes nothing. The random logs begin with it, and so
 # does the log that is taken off.
 IDLE = frame_bytes(0, b"")
-IDLE_ANSWER = "refused 2"
+IDLE_ANSWER = f"refused {Refusal.UNKNOWN_TAG}"
 
 
 class Pair(NamedTuple):

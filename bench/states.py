@@ -5,62 +5,31 @@ those that the call gives. So no measured call changes what the program prints
 at its end. The tracker only moves items: no branch goes by them.
 """
 
-import sys
-from pathlib import Path
 from typing import Dict, List, NamedTuple
 
-ROOT = Path(__file__).resolve().parent.parent
-sys.path.insert(0, str(ROOT / "model"))
-
-from limits import (  # noqa: E402
-    CLOSE,
-    CREATE,
-    DESCRIPTORS,
-    DEVICE,
-    DEVICES,
-    DUP,
-    EXIT,
-    FILES,
-    FORK,
-    LABEL,
-    LINK,
-    MAP_BOTH,
-    MAP_READ,
-    NAMES,
-    OPEN,
-    PIPE,
-    PROCESSES,
-    READ,
-    RENAME,
-    START,
-    TRUNCATE,
-    UNLINK,
-    UNMAP,
-    WRITE,
-    process_container,
-)
-from records import Call  # noqa: E402
+from model.limits import DESCRIPTORS, DEVICES, FILES, NAMES, PROCESSES, Kind, process_container
+from model.records import Call
 
 KIND_NAMES = {
-    START: "start",
-    OPEN: "open",
-    CREATE: "create",
-    PIPE: "pipe",
-    DEVICE: "device",
-    DUP: "dup",
-    CLOSE: "close",
-    READ: "read",
-    WRITE: "write",
-    TRUNCATE: "truncate",
-    MAP_READ: "map read",
-    MAP_BOTH: "map both",
-    UNMAP: "unmap",
-    UNLINK: "unlink",
-    RENAME: "rename",
-    LINK: "link",
-    FORK: "fork",
-    EXIT: "exit",
-    LABEL: "label",
+    Kind.START: "start",
+    Kind.OPEN: "open",
+    Kind.CREATE: "create",
+    Kind.PIPE: "pipe",
+    Kind.DEVICE: "device",
+    Kind.DUP: "dup",
+    Kind.CLOSE: "close",
+    Kind.READ: "read",
+    Kind.WRITE: "write",
+    Kind.TRUNCATE: "truncate",
+    Kind.MAP_READ: "map read",
+    Kind.MAP_BOTH: "map both",
+    Kind.UNMAP: "unmap",
+    Kind.UNLINK: "unlink",
+    Kind.RENAME: "rename",
+    Kind.LINK: "link",
+    Kind.FORK: "fork",
+    Kind.EXIT: "exit",
+    Kind.LABEL: "label",
 }
 
 
@@ -73,46 +42,46 @@ class Case(NamedTuple):
 
 def small_cases() -> Dict[int, Case]:
     """One live process, 0, and one file, 24, under name 0 and descriptor 0."""
-    base = [Call(START, 0), Call(CREATE, 0, 0, 0, 24)]
-    mapped = [*base, Call(MAP_READ, 0, 0)]
-    labelled = [*base, Call(LABEL, 0, 24, 0)]
+    base = [Call(Kind.START, 0), Call(Kind.CREATE, 0, 0, 0, 24)]
+    mapped = [*base, Call(Kind.MAP_READ, 0, 0)]
+    labelled = [*base, Call(Kind.LABEL, 0, 24, 0)]
     calls = [
-        Call(START, 1),
-        Call(OPEN, 0, 0, 1),
-        Call(CREATE, 0, 1, 1, 25),
-        Call(PIPE, 0, 1, 2, 25),
-        Call(DEVICE, 0, 1, 0),
-        Call(DUP, 0, 0, 1),
-        Call(CLOSE, 0, 0),
-        Call(READ, 0, 0),
-        Call(WRITE, 0, 0),
-        Call(TRUNCATE, 0, 0),
-        Call(MAP_READ, 0, 0),
-        Call(MAP_BOTH, 0, 0),
-        Call(UNMAP, 0, 24),
-        Call(UNLINK, 0, 0),
-        Call(RENAME, 0, 0, 1),
-        Call(LINK, 0, 0, 1),
-        Call(FORK, 0, 1),
-        Call(EXIT, 0),
-        Call(LABEL, 0, 24, 0),
+        Call(Kind.START, 1),
+        Call(Kind.OPEN, 0, 0, 1),
+        Call(Kind.CREATE, 0, 1, 1, 25),
+        Call(Kind.PIPE, 0, 1, 2, 25),
+        Call(Kind.DEVICE, 0, 1, 0),
+        Call(Kind.DUP, 0, 0, 1),
+        Call(Kind.CLOSE, 0, 0),
+        Call(Kind.READ, 0, 0),
+        Call(Kind.WRITE, 0, 0),
+        Call(Kind.TRUNCATE, 0, 0),
+        Call(Kind.MAP_READ, 0, 0),
+        Call(Kind.MAP_BOTH, 0, 0),
+        Call(Kind.UNMAP, 0, 24),
+        Call(Kind.UNLINK, 0, 0),
+        Call(Kind.RENAME, 0, 0, 1),
+        Call(Kind.LINK, 0, 0, 1),
+        Call(Kind.FORK, 0, 1),
+        Call(Kind.EXIT, 0),
+        Call(Kind.LABEL, 0, 24, 0),
     ]
-    before = {UNMAP: mapped, LABEL: labelled}
+    before = {Kind.UNMAP: mapped, Kind.LABEL: labelled}
     return {call.kind: Case(before.get(call.kind, base), call) for call in calls}
 
 
 def small_laden_cases() -> Dict[int, Case]:
     """The same state for calls that move items, with item 0 where the call brings it elsewhere."""
-    base = [Call(START, 0), Call(CREATE, 0, 0, 0, 24)]
-    filled = [*base, Call(LABEL, 0, 24, 0)]
-    holding = [*base, Call(LABEL, 0, process_container(0), 0)]
+    base = [Call(Kind.START, 0), Call(Kind.CREATE, 0, 0, 0, 24)]
+    filled = [*base, Call(Kind.LABEL, 0, 24, 0)]
+    holding = [*base, Call(Kind.LABEL, 0, process_container(0), 0)]
     cases = [
-        Case(filled, Call(READ, 0, 0)),
-        Case(holding, Call(WRITE, 0, 0)),
-        Case(filled, Call(MAP_READ, 0, 0)),
-        Case(holding, Call(MAP_BOTH, 0, 0)),
-        Case(holding, Call(FORK, 0, 1)),
-        Case(base, Call(LABEL, 0, 24, 0)),
+        Case(filled, Call(Kind.READ, 0, 0)),
+        Case(holding, Call(Kind.WRITE, 0, 0)),
+        Case(filled, Call(Kind.MAP_READ, 0, 0)),
+        Case(holding, Call(Kind.MAP_BOTH, 0, 0)),
+        Case(holding, Call(Kind.FORK, 0, 1)),
+        Case(base, Call(Kind.LABEL, 0, 24, 0)),
     ]
     return {case.call.kind: case for case in cases}
 
@@ -137,56 +106,57 @@ def chain_file(process: int) -> int:
 def mapped_only(process: int, file: int, kind: int) -> List[Call]:
     """A file that the process maps, with no name and no descriptor."""
     return [
-        Call(CREATE, process, N_WORK, D_WORK, file),
+        Call(Kind.CREATE, process, N_WORK, D_WORK, file),
         Call(kind, process, D_WORK),
-        Call(CLOSE, process, D_WORK),
-        Call(UNLINK, process, N_WORK),
+        Call(Kind.CLOSE, process, D_WORK),
+        Call(Kind.UNLINK, process, N_WORK),
     ]
 
 
 def link_of_chain(giver: int, receiver: int) -> List[Call]:
     """Links from one process to a file and from that to another process."""
     return [
-        Call(CREATE, giver, N_WORK, D_WORK, chain_file(giver)),
-        Call(MAP_BOTH, giver, D_WORK),
-        Call(OPEN, receiver, N_WORK, D_WORK),
-        Call(MAP_READ, receiver, D_WORK),
-        Call(CLOSE, receiver, D_WORK),
-        Call(CLOSE, giver, D_WORK),
-        Call(UNLINK, giver, N_WORK),
+        Call(Kind.CREATE, giver, N_WORK, D_WORK, chain_file(giver)),
+        Call(Kind.MAP_BOTH, giver, D_WORK),
+        Call(Kind.OPEN, receiver, N_WORK, D_WORK),
+        Call(Kind.MAP_READ, receiver, D_WORK),
+        Call(Kind.CLOSE, receiver, D_WORK),
+        Call(Kind.CLOSE, giver, D_WORK),
+        Call(Kind.UNLINK, giver, N_WORK),
     ]
 
 
 def worst_state(live: range, spread: bool) -> List[Call]:
     """The worst state; with spread the last process of the chain gives to many containers."""
     last = live[0]
-    calls = [Call(START, process) for process in live]
-    calls += [Call(CREATE, GIVER, N_FIRST, D_FIRST, FIRST), Call(MAP_READ, GIVER, D_FIRST)]
-    calls += mapped_only(GIVER, HIDDEN, MAP_READ)
+    calls = [Call(Kind.START, process) for process in live]
+    calls.append(Call(Kind.CREATE, GIVER, N_FIRST, D_FIRST, FIRST))
+    calls.append(Call(Kind.MAP_READ, GIVER, D_FIRST))
+    calls += mapped_only(GIVER, HIDDEN, Kind.MAP_READ)
     for giver in range(GIVER, last, -1):
         calls += link_of_chain(giver, giver - 1)
     if spread:
         for device in DEVICES:
-            calls += [Call(DEVICE, last, D_WORK, device), Call(MAP_BOTH, last, D_WORK)]
-            calls += [Call(CLOSE, last, D_WORK)]
+            calls += [Call(Kind.DEVICE, last, D_WORK, device), Call(Kind.MAP_BOTH, last, D_WORK)]
+            calls += [Call(Kind.CLOSE, last, D_WORK)]
         for file in range(FILLER + 1, FREE):
-            calls += mapped_only(last, file, MAP_BOTH)
-    calls += [Call(CREATE, GIVER, N_FILLER, D_WORK, FILLER)]
-    calls += [Call(LINK, GIVER, N_FILLER, n) for n in NAMES if n not in (N_FIRST, N_FILLER)]
+            calls += mapped_only(last, file, Kind.MAP_BOTH)
+    calls += [Call(Kind.CREATE, GIVER, N_FILLER, D_WORK, FILLER)]
+    calls += [Call(Kind.LINK, GIVER, N_FILLER, n) for n in NAMES if n not in (N_FIRST, N_FILLER)]
     opened = {(GIVER, D_FIRST), (GIVER, D_WORK)}
     closed = [(p, d) for p in live for d in DESCRIPTORS if (p, d) not in opened]
-    calls += [Call(OPEN, p, N_FILLER, d) for p, d in closed]
-    return calls + [Call(MAP_BOTH, last, D_WORK)] if spread else calls
+    calls += [Call(Kind.OPEN, p, N_FILLER, d) for p, d in closed]
+    return calls + [Call(Kind.MAP_BOTH, last, D_WORK)] if spread else calls
 
 
 def own_pipe(file: int, kept: int, other: int) -> List[Call]:
     """Make one descriptor the only way to a file."""
     return [
-        Call(CLOSE, GIVER, kept),
-        Call(CLOSE, GIVER, other),
-        Call(PIPE, GIVER, kept, other, file),
-        Call(CLOSE, GIVER, other),
-        Call(OPEN, GIVER, N_FILLER, other),
+        Call(Kind.CLOSE, GIVER, kept),
+        Call(Kind.CLOSE, GIVER, other),
+        Call(Kind.PIPE, GIVER, kept, other, file),
+        Call(Kind.CLOSE, GIVER, other),
+        Call(Kind.OPEN, GIVER, N_FILLER, other),
     ]
 
 
@@ -202,36 +172,37 @@ def worst_cases() -> Dict[int, Case]:
     """The worst state, less what the call needs free, and the call at its worst place."""
     full = worst_state(PROCESSES, spread=True)
     one_dead = worst_state(PROCESSES[1:], spread=True)
-    freed = [Call(CLOSE, GIVER, D_LAST)]
-    unbound = [Call(UNLINK, GIVER, N_LAST)]
+    freed = [Call(Kind.CLOSE, GIVER, D_LAST)]
+    both_freed = [*freed, Call(Kind.CLOSE, GIVER, D_OTHER)]
+    unbound = [Call(Kind.UNLINK, GIVER, N_LAST)]
     # FREE has no use but the name N_LAST
     named_only = [
         *freed,
         *unbound,
-        Call(CREATE, GIVER, N_LAST, D_LAST, FREE),
-        Call(CLOSE, GIVER, D_LAST),
-        Call(OPEN, GIVER, N_FILLER, D_LAST),
+        Call(Kind.CREATE, GIVER, N_LAST, D_LAST, FREE),
+        Call(Kind.CLOSE, GIVER, D_LAST),
+        Call(Kind.OPEN, GIVER, N_FILLER, D_LAST),
     ]
-    label = Call(LABEL, 0, HIDDEN, 0)
+    label = Call(Kind.LABEL, 0, HIDDEN, 0)
     cases = [
-        Case(one_dead, Call(START, 0)),
-        Case(full + freed, Call(OPEN, GIVER, N_FILLER, D_LAST)),
-        Case(full + freed + unbound, Call(CREATE, GIVER, N_LAST, D_LAST, FREE)),
-        Case(full + freed + [Call(CLOSE, GIVER, D_OTHER)], Call(PIPE, GIVER, D_OTHER, D_LAST, FREE)),
-        Case(full + freed, Call(DEVICE, GIVER, D_LAST, DEVICES[-1])),
-        Case(full + freed, Call(DUP, GIVER, D_FIRST, D_LAST)),
-        Case(full + own_pipe(FREE, D_OTHER, D_LAST), Call(CLOSE, GIVER, D_OTHER)),
-        Case(full, Call(READ, GIVER, D_FIRST)),
-        Case(full, Call(WRITE, GIVER, D_FIRST)),
-        Case(full, Call(TRUNCATE, GIVER, D_FIRST)),
-        Case(full, Call(MAP_READ, GIVER, D_FIRST)),
-        Case(full, Call(MAP_BOTH, GIVER, D_FIRST)),
-        Case(full, Call(UNMAP, GIVER, HIDDEN)),
-        Case(full + named_only, Call(UNLINK, GIVER, N_LAST)),
-        Case(full + named_only, Call(RENAME, GIVER, N_OTHER, N_LAST)),
-        Case(full + unbound, Call(LINK, GIVER, N_FILLER, N_LAST)),
-        Case(one_dead, Call(FORK, GIVER, 0)),
-        Case(many_owned(), Call(EXIT, GIVER)),
+        Case(one_dead, Call(Kind.START, 0)),
+        Case(full + freed, Call(Kind.OPEN, GIVER, N_FILLER, D_LAST)),
+        Case(full + freed + unbound, Call(Kind.CREATE, GIVER, N_LAST, D_LAST, FREE)),
+        Case(full + both_freed, Call(Kind.PIPE, GIVER, D_OTHER, D_LAST, FREE)),
+        Case(full + freed, Call(Kind.DEVICE, GIVER, D_LAST, DEVICES[-1])),
+        Case(full + freed, Call(Kind.DUP, GIVER, D_FIRST, D_LAST)),
+        Case(full + own_pipe(FREE, D_OTHER, D_LAST), Call(Kind.CLOSE, GIVER, D_OTHER)),
+        Case(full, Call(Kind.READ, GIVER, D_FIRST)),
+        Case(full, Call(Kind.WRITE, GIVER, D_FIRST)),
+        Case(full, Call(Kind.TRUNCATE, GIVER, D_FIRST)),
+        Case(full, Call(Kind.MAP_READ, GIVER, D_FIRST)),
+        Case(full, Call(Kind.MAP_BOTH, GIVER, D_FIRST)),
+        Case(full, Call(Kind.UNMAP, GIVER, HIDDEN)),
+        Case(full + named_only, Call(Kind.UNLINK, GIVER, N_LAST)),
+        Case(full + named_only, Call(Kind.RENAME, GIVER, N_OTHER, N_LAST)),
+        Case(full + unbound, Call(Kind.LINK, GIVER, N_FILLER, N_LAST)),
+        Case(one_dead, Call(Kind.FORK, GIVER, 0)),
+        Case(many_owned(), Call(Kind.EXIT, GIVER)),
         Case(full + [label], label),
     ]
     return {case.call.kind: case for case in cases}
@@ -245,23 +216,23 @@ def worst_laden_cases() -> Dict[int, Case]:
     full = worst_state(PROCESSES, spread=True)
     one_dead = worst_state(PROCESSES[1:], spread=True)
     first, last = PROCESSES[0], PROCESSES[1]
-    apart = [Call(START, first), Call(OPEN, first, N_FIRST, D_FIRST)]
-    holding = [*one_dead, *apart, Call(LABEL, 0, process_container(first), 0)]
+    apart = [Call(Kind.START, first), Call(Kind.OPEN, first, N_FIRST, D_FIRST)]
+    holding = [*one_dead, *apart, Call(Kind.LABEL, 0, process_container(first), 0)]
     filled = [
         *full,
-        Call(CLOSE, GIVER, D_LAST),
-        Call(UNLINK, GIVER, N_LAST),
-        Call(CREATE, GIVER, N_LAST, D_LAST, FREE),
-        Call(LABEL, 0, FREE, 0),
+        Call(Kind.CLOSE, GIVER, D_LAST),
+        Call(Kind.UNLINK, GIVER, N_LAST),
+        Call(Kind.CREATE, GIVER, N_LAST, D_LAST, FREE),
+        Call(Kind.LABEL, 0, FREE, 0),
     ]
-    inherited = [*one_dead, Call(LABEL, 0, process_container(last), 0)]
+    inherited = [*one_dead, Call(Kind.LABEL, 0, process_container(last), 0)]
     cases = [
-        Case(filled, Call(READ, GIVER, D_LAST)),
-        Case(holding, Call(WRITE, first, D_FIRST)),
-        Case(filled, Call(MAP_READ, GIVER, D_LAST)),
-        Case(holding, Call(MAP_BOTH, first, D_FIRST)),
-        Case(inherited, Call(FORK, last, first)),
-        Case(full, Call(EXIT, first)),
-        Case(full, Call(LABEL, 0, HIDDEN, 0)),
+        Case(filled, Call(Kind.READ, GIVER, D_LAST)),
+        Case(holding, Call(Kind.WRITE, first, D_FIRST)),
+        Case(filled, Call(Kind.MAP_READ, GIVER, D_LAST)),
+        Case(holding, Call(Kind.MAP_BOTH, first, D_FIRST)),
+        Case(inherited, Call(Kind.FORK, last, first)),
+        Case(full, Call(Kind.EXIT, first)),
+        Case(full, Call(Kind.LABEL, 0, HIDDEN, 0)),
     ]
     return {case.call.kind: case for case in cases}

@@ -7,26 +7,9 @@ verdicts from the tracker's states and decides by itself what moves.
 import hashlib
 from typing import Any, Callable, Dict, Iterable, List, NamedTuple, Optional, Set, Tuple, Union
 
-from limits import (
-    CALL_TAG,
-    CONTAINERS,
-    CREATE,
-    EXIT,
-    FILES,
-    FORK,
-    LABEL,
-    MAP_BOTH,
-    MAP_READ,
-    PIPE,
-    READ,
-    START,
-    TRUNCATE,
-    VALUE_LENGTHS,
-    WRITE,
-    process_container,
-)
-from records import Call, decode_call, read_frame
-from tracker import Answer, State, Tracker, forbids
+from model.limits import CALL_TAG, CONTAINERS, FILES, VALUE_LENGTHS, Kind, process_container
+from model.records import Call, decode_call, read_frame
+from model.tracker import Answer, State, Tracker, forbids
 
 
 class RecordStep(NamedTuple):
@@ -160,7 +143,7 @@ class Machine:
             self.contents[receiver] = self.functions.gift(place, receiver, old, givers)
 
     def _fork(self, place: int, call: Call) -> None:
-        if call.kind == FORK:
+        if call.kind == Kind.FORK:
             child = process_container(call.a)
             self.contents[child] = self.functions.fork(
                 place, child, self.contents[child], self.contents[call.caller]
@@ -179,26 +162,26 @@ def gifts(call: Call, answer: Answer, before: State) -> List[Tuple[Optional[int]
     """The pairs of giver and target of a call; a label's giver is None."""
     if answer.word == "modify":
         return [(call.caller, answer.numbers[1])]
-    if call.kind == LABEL:
+    if call.kind == Kind.LABEL:
         return [(None, call.a)]
-    if call.kind not in (READ, WRITE, MAP_READ, MAP_BOTH):
+    if call.kind not in (Kind.READ, Kind.WRITE, Kind.MAP_READ, Kind.MAP_BOTH):
         return []
     container = before.descriptors[call.process, call.a]
     to_process = (container, call.caller)
     to_container = (call.caller, container)
-    if call.kind == MAP_BOTH:
+    if call.kind == Kind.MAP_BOTH:
         return [to_process, to_container]
-    return [to_container] if call.kind == WRITE else [to_process]
+    return [to_container] if call.kind == Kind.WRITE else [to_process]
 
 
 def cleared(call: Call, before: State, after: State) -> Set[int]:
     """The containers that are started, new or emptied by a call."""
     found = {c for c in before.used() - after.used() if c in FILES}
-    if call.kind in (START, EXIT):
+    if call.kind in (Kind.START, Kind.EXIT):
         found.add(call.caller)
-    if call.kind in (CREATE, PIPE):
+    if call.kind in (Kind.CREATE, Kind.PIPE):
         found.add(call.c)
-    if call.kind == TRUNCATE:
+    if call.kind == Kind.TRUNCATE:
         container = before.descriptors[call.process, call.a]
         if not before.is_fed(container):
             found.add(container)

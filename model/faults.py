@@ -2,28 +2,11 @@
 
 from typing import Optional
 
-from choices import Choices
-from limits import (
-    ACTIONS,
-    CALL_TAG,
-    COMBINATION_TAG,
-    CONTAINERS,
-    DENY_TAG,
-    DEVICES,
-    DUP,
-    ITEMS,
-    KINDS,
-    LIMIT_TAG,
-    LINK,
-    OPEN,
-    PIPE,
-    PROCESSES,
-    RULE_LIMIT,
-    TRUNCATE,
-    VALUE_LENGTHS,
-)
-from proposals import FIELDS, Proposer
-from records import Call, Rule, combination, encode, frame_bytes
+from model.choices import Choices
+from model.limits import ACTIONS, CALL_TAG, CONFINE_TAG, CONTAINERS, DEVICES, FORBID_TAG, ITEMS
+from model.limits import KINDS, PROCESSES, RULE_LIMIT, SEPARATE_TAG, VALUE_LENGTHS, Kind
+from model.proposals import Proposer
+from model.records import CALL_FIELDS, Call, Rule, encode, frame_bytes, separate
 
 # Tags beside the known ones, those of later papers first.
 OTHER_TAGS = [*range(0x14, 0x1C), 0x00, 0x01, 0x0F, 0x1C, 0x20, 0x7F, 0x80, 0x90, 0xFF]
@@ -68,28 +51,28 @@ class FaultMaker:
     def unknown_kind(self) -> bytes:
         """A kind outside 1 to 19, the other fields of any value."""
         kind = self.choices.pick([0, KINDS[-1] + 1, 255, self.choices.pick(range(20, 256))])
-        return encode(Call(kind, *(self.choices.pick(EDGES) for _ in FIELDS)))
+        return encode(Call(kind, *(self.choices.pick(EDGES) for _ in CALL_FIELDS)))
 
     def flawed_call(self) -> Optional[bytes]:
         """A call with one to three fields that do not fit the state."""
         call = self.proposer.call(self.choices.pick(KINDS))
         if call is None:
             return None
-        fields = [self.choices.pick(FIELDS) for _ in range(self.choices.pick([1, 1, 2, 3]))]
+        fields = [self.choices.pick(CALL_FIELDS) for _ in range(self.choices.pick([1, 1, 2, 3]))]
         return encode(self.proposer.flawed(call, fields, self.choices.chance(0.25)))
 
     def taken_and_missing(self) -> Optional[bytes]:
         """A call whose field a is missing and whose field b is taken."""
-        call = self.proposer.call(self.choices.pick([OPEN, DUP, LINK]))
+        call = self.proposer.call(self.choices.pick([Kind.OPEN, Kind.DUP, Kind.LINK]))
         return encode(self.proposer.flawed(call, "ab", False)) if call else None
 
     def same_twice(self) -> Optional[bytes]:
-        """A pipe or a combination rule whose two fields are equal."""
+        """A pipe, or a rule that separates, whose two fields are equal."""
         if self.choices.chance(0.4):
             action, substitute = self.proposer.action()
             item = self.proposer.item()
-            return encode(combination(item, item, action, substitute))
-        call = self.proposer.call(PIPE)
+            return encode(separate(item, item, action, substitute))
+        call = self.proposer.call(Kind.PIPE)
         if call is None:
             return None
         if self.choices.chance(0.4):
@@ -102,7 +85,7 @@ class FaultMaker:
         found = sorted(key for key, container in descriptors.items() if container in DEVICES)
         if not found:
             return None
-        return encode(Call(TRUNCATE, *self.choices.pick(found)))
+        return encode(Call(Kind.TRUNCATE, *self.choices.pick(found)))
 
     def flawed_rule(self) -> Optional[bytes]:
         """A rule with a wrong action, item or substitute, or several of them."""
@@ -142,7 +125,7 @@ class FaultMaker:
     def noise(self) -> bytes:
         """A call or a rule made without a look at the state."""
         pick = self.choices.pick
-        tag = self.choices.weighted([(CALL_TAG, 6), (DENY_TAG, 1), (LIMIT_TAG, 1)])
+        tag = self.choices.weighted([(CALL_TAG, 6), (FORBID_TAG, 1), (CONFINE_TAG, 1)])
         if tag == CALL_TAG:
             return encode(Call(pick(KINDS), pick(PROCESSES), *(pick(EDGES) for _ in "abc")))
         containers = frozenset(self.choices.some(CONTAINERS, 0.5))
@@ -159,4 +142,4 @@ class FaultMaker:
 
     def _equal_items(self, rule: Optional[Rule]) -> Rule:
         item = rule.items[0] if rule else self.proposer.item()
-        return Rule(COMBINATION_TAG, (item, item), frozenset(), 0, 0)
+        return Rule(SEPARATE_TAG, (item, item), frozenset(), 0, 0)

@@ -5,57 +5,36 @@ The same seed, number and mix give the same log.
 
 from typing import List, NamedTuple, Optional
 
-from choices import Choices
-from contents import MemoryStep, RecordStep, Step
-from faults import FaultMaker
-from limits import (
-    CLOSE,
-    CONTAINERS,
-    CREATE,
-    DEVICE,
-    DUP,
-    EXIT,
-    FORK,
-    LABEL,
-    LINK,
-    MAP_BOTH,
-    MAP_READ,
-    OPEN,
-    PIPE,
-    READ,
-    RENAME,
-    START,
-    TRUNCATE,
-    UNLINK,
-    UNMAP,
-    WRITE,
-)
-from plans import Planner
-from proposals import Proposer
-from records import encode
-from tracker import Tracker
+from model.choices import Choices
+from model.contents import MemoryStep, RecordStep, Step
+from model.faults import FaultMaker
+from model.limits import CONTAINERS, Kind
+from model.plans import Planner
+from model.proposals import Proposer
+from model.records import encode
+from model.tracker import Tracker
 
 # How often a sound call is of each kind.
 KIND_WEIGHTS = [
-    (START, 5),
-    (OPEN, 8),
-    (CREATE, 6),
-    (PIPE, 3),
-    (DEVICE, 5),
-    (DUP, 4),
-    (CLOSE, 6),
-    (READ, 10),
-    (WRITE, 10),
-    (TRUNCATE, 5),
-    (MAP_READ, 5),
-    (MAP_BOTH, 5),
-    (UNMAP, 5),
-    (UNLINK, 3),
-    (RENAME, 4),
-    (LINK, 3),
-    (FORK, 2),
-    (EXIT, 2),
-    (LABEL, 5),
+    (Kind.START, 5),
+    (Kind.OPEN, 8),
+    (Kind.CREATE, 6),
+    (Kind.PIPE, 3),
+    (Kind.DEVICE, 5),
+    (Kind.DUP, 4),
+    (Kind.CLOSE, 6),
+    (Kind.READ, 10),
+    (Kind.WRITE, 10),
+    (Kind.TRUNCATE, 5),
+    (Kind.MAP_READ, 5),
+    (Kind.MAP_BOTH, 5),
+    (Kind.UNMAP, 5),
+    (Kind.UNLINK, 3),
+    (Kind.RENAME, 4),
+    (Kind.LINK, 3),
+    (Kind.FORK, 2),
+    (Kind.EXIT, 2),
+    (Kind.LABEL, 5),
 ]
 
 

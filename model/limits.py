@@ -1,5 +1,15 @@
 """The numbers of document 01 in one place: limits, tags, kinds and refusals."""
 
+from enum import IntEnum
+
+
+class Number(IntEnum):
+    """Named numbers that are written as numbers, whatever the version of Python."""
+
+    __str__ = int.__repr__
+    __format__ = int.__format__
+
+
 # Document 01, The box.
 CONTAINERS = range(0, 64)
 DEVICES = range(0, 8)
@@ -14,57 +24,66 @@ LOG_LIMIT = 65536
 
 # Document 01, The records: tags and the length of each tag's value.
 CALL_TAG = 0x10
-DENY_TAG = 0x11  # the item may not be in a container of the set
-COMBINATION_TAG = 0x12  # no container may hold both items
-LIMIT_TAG = 0x13  # the item may not be in a container outside the set
+FORBID_TAG = 0x11  # the item may not be in a container of the set
+SEPARATE_TAG = 0x12  # no container may hold both items
+CONFINE_TAG = 0x13  # the item may not be in a container outside the set
 HEADER_LENGTH = 3
-VALUE_LENGTHS = {CALL_TAG: 5, DENY_TAG: 11, COMBINATION_TAG: 4, LIMIT_TAG: 11}
+VALUE_LENGTHS = {CALL_TAG: 5, FORBID_TAG: 11, SEPARATE_TAG: 4, CONFINE_TAG: 11}
 SET_BYTES = 8
 
-# Call kinds.
-START = 1
-OPEN = 2
-CREATE = 3
-PIPE = 4
-DEVICE = 5
-DUP = 6
-CLOSE = 7
-READ = 8
-WRITE = 9
-TRUNCATE = 10
-MAP_READ = 11
-MAP_BOTH = 12
-UNMAP = 13
-UNLINK = 14
-RENAME = 15
-LINK = 16
-FORK = 17
-EXIT = 18
-LABEL = 19
-KINDS = range(START, LABEL + 1)
+
+class Kind(Number):
+    """The kinds of call."""
+
+    START = 1
+    OPEN = 2
+    CREATE = 3
+    PIPE = 4
+    DEVICE = 5
+    DUP = 6
+    CLOSE = 7
+    READ = 8
+    WRITE = 9
+    TRUNCATE = 10
+    MAP_READ = 11
+    MAP_BOTH = 12
+    UNMAP = 13
+    UNLINK = 14
+    RENAME = 15
+    LINK = 16
+    FORK = 17
+    EXIT = 18
+    LABEL = 19
+
+
+KINDS = range(min(Kind), max(Kind) + 1)
 
 # Rule actions.
 INHIBIT_ACTION = 0
 DIVERT_ACTION = 1
 ACTIONS = range(0, 2)
 
-# Refusals, document 01, What a record gets.
-CUT_SHORT = 1
-UNKNOWN_TAG = 2
-WRONG_LENGTH = 3
-UNKNOWN_KIND = 4
-OUT_OF_RANGE = 5
-DEAD_PROCESS = 6
-TAKEN = 7
-MISSING = 8
-SAME_TWICE = 9
-NO_FILE = 10
-RULES_FULL = 11
-BROKEN_ALREADY = 12
-SLICE_SHORT = 13
 
-# The first number in this order that applies is the answer.
-REFUSAL_ORDER = tuple(range(CUT_SHORT, SLICE_SHORT + 1))
+class Refusal(Number):
+    """Document 01, What a record gets: the first in this order that applies is the answer."""
+
+    CUT_SHORT = 1
+    UNKNOWN_TAG = 2
+    WRONG_LENGTH = 3
+    UNKNOWN_KIND = 4
+    OUT_OF_RANGE = 5
+    DEAD_PROCESS = 6
+    TAKEN = 7
+    MISSING = 8
+    SAME_TWICE = 9
+    NO_FILE = 10
+    RULES_FULL = 11
+    BROKEN_ALREADY = 12
+    SLICE_SHORT = 13
+
+
+# Those that a record can get; the last is for a query.
+RECORD_REFUSALS = tuple(Refusal)[:-1]
 
 
 def process_container(process: int) -> int:

@@ -15,9 +15,9 @@ import tempfile
 from contextlib import contextmanager, suppress
 from typing import Any, BinaryIO, Callable, Iterator, List, NamedTuple, Optional, TextIO
 
-from limits import HEADER_LENGTH, LOG_LIMIT
-from logtext import BadLine, assemble, counted, split_records
-from records import read_frame
+from model.limits import HEADER_LENGTH, LOG_LIMIT
+from model.logtext import BadLine, assemble, counted, split_records
+from model.records import read_frame, stated_length
 
 STANDARD = "-"
 INPUT_LIMIT = 64 * LOG_LIMIT  # bytes of any input: a text is longer than its log
@@ -181,10 +181,9 @@ def cut_short(path: str, log: bytes) -> str:
     if not records or read_frame(records[-1]) is not None:
         return ""
     last = records[-1]
-    whole = f"at least {HEADER_LENGTH}"
-    if len(last) >= HEADER_LENGTH:
-        whole = str(HEADER_LENGTH + int.from_bytes(last[1:HEADER_LENGTH], "big"))
-    found = f"found {counted(len(last), 'byte')} of record {len(records)}, expected {whole}"
+    least = "at least " if len(last) < HEADER_LENGTH else ""
+    whole = f"expected {least}{stated_length(last)}"
+    found = f"found {counted(len(last), 'byte')} of record {len(records)}, {whole}"
     return f"{shown_name(path)}: {found}; the log is cut short: copy it again, whole"
 
 

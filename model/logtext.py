@@ -8,9 +8,9 @@ Bytes that no form fits are written as a raw line.
 import re
 from typing import Callable, Dict, Iterable, List, NamedTuple, Optional, Tuple
 
-import limits
-from limits import CALL_TAG, COMBINATION_TAG, DENY_TAG, LIMIT_TAG
-from records import frame_bytes, read_frame
+from model import limits
+from model.limits import CALL_TAG, CONFINE_TAG, FORBID_TAG, SEPARATE_TAG, Kind, Refusal
+from model.records import frame_bytes, read_frame
 
 BYTE = range(0, 256)
 RAW = "raw"
@@ -19,18 +19,18 @@ SHOWN = 60  # characters of a word in a message
 
 # Document 01, the table of refusals: the bench's words.
 REFUSAL_WORDS = {
-    1: "cut short",
-    2: "unknown tag",
-    3: "wrong length",
-    4: "unknown kind",
-    5: "out of range",
-    6: "dead process",
-    7: "taken",
-    8: "missing",
-    9: "same twice",
-    10: "no file",
-    11: "rules full",
-    12: "broken already",
+    Refusal.CUT_SHORT: "cut short",
+    Refusal.UNKNOWN_TAG: "unknown tag",
+    Refusal.WRONG_LENGTH: "wrong length",
+    Refusal.UNKNOWN_KIND: "unknown kind",
+    Refusal.OUT_OF_RANGE: "out of range",
+    Refusal.DEAD_PROCESS: "dead process",
+    Refusal.TAKEN: "taken",
+    Refusal.MISSING: "missing",
+    Refusal.SAME_TWICE: "same twice",
+    Refusal.NO_FILE: "no file",
+    Refusal.RULES_FULL: "rules full",
+    Refusal.BROKEN_ALREADY: "broken already",
 }
 
 
@@ -247,28 +247,28 @@ def call_form(word: str, kind: int, process: Part, *fields: Part) -> Form:
 
 
 FORMS = (
-    call_form("start", limits.START, PROCESS),
-    call_form("open", limits.OPEN, PROCESS, NAME, DESCRIPTOR),
-    call_form("create", limits.CREATE, PROCESS, NAME, DESCRIPTOR, CONTAINER),
-    call_form("pipe", limits.PIPE, PROCESS, DESCRIPTOR_PAIR, CONTAINER),
-    call_form("device", limits.DEVICE, PROCESS, DESCRIPTOR, DEVICE),
-    call_form("dup", limits.DUP, PROCESS, FROM_DESCRIPTOR, TO_DESCRIPTOR),
-    call_form("close", limits.CLOSE, PROCESS, DESCRIPTOR),
-    call_form("read", limits.READ, PROCESS, DESCRIPTOR),
-    call_form("write", limits.WRITE, PROCESS, DESCRIPTOR),
-    call_form("truncate", limits.TRUNCATE, PROCESS, DESCRIPTOR),
-    call_form("map-read", limits.MAP_READ, PROCESS, DESCRIPTOR),
-    call_form("map-both", limits.MAP_BOTH, PROCESS, DESCRIPTOR),
-    call_form("unmap", limits.UNMAP, PROCESS, CONTAINER),
-    call_form("unlink", limits.UNLINK, PROCESS, NAME),
-    call_form("rename", limits.RENAME, PROCESS, FROM_NAME, TO_NAME),
-    call_form("link", limits.LINK, PROCESS, FROM_NAME, TO_NAME),
-    call_form("fork", limits.FORK, PROCESS, CHILD),
-    call_form("exit", limits.EXIT, PROCESS),
-    call_form("label", limits.LABEL, UNUSED, CONTAINER, ITEM),
-    Form("forbid", DENY_TAG, b"", (ITEM, set_part("in="), ACTION)),
-    Form("separate", COMBINATION_TAG, b"", (ITEM_PAIR, ACTION)),
-    Form("confine", LIMIT_TAG, b"", (ITEM, set_part("to="), ACTION)),
+    call_form("start", Kind.START, PROCESS),
+    call_form("open", Kind.OPEN, PROCESS, NAME, DESCRIPTOR),
+    call_form("create", Kind.CREATE, PROCESS, NAME, DESCRIPTOR, CONTAINER),
+    call_form("pipe", Kind.PIPE, PROCESS, DESCRIPTOR_PAIR, CONTAINER),
+    call_form("device", Kind.DEVICE, PROCESS, DESCRIPTOR, DEVICE),
+    call_form("dup", Kind.DUP, PROCESS, FROM_DESCRIPTOR, TO_DESCRIPTOR),
+    call_form("close", Kind.CLOSE, PROCESS, DESCRIPTOR),
+    call_form("read", Kind.READ, PROCESS, DESCRIPTOR),
+    call_form("write", Kind.WRITE, PROCESS, DESCRIPTOR),
+    call_form("truncate", Kind.TRUNCATE, PROCESS, DESCRIPTOR),
+    call_form("map-read", Kind.MAP_READ, PROCESS, DESCRIPTOR),
+    call_form("map-both", Kind.MAP_BOTH, PROCESS, DESCRIPTOR),
+    call_form("unmap", Kind.UNMAP, PROCESS, CONTAINER),
+    call_form("unlink", Kind.UNLINK, PROCESS, NAME),
+    call_form("rename", Kind.RENAME, PROCESS, FROM_NAME, TO_NAME),
+    call_form("link", Kind.LINK, PROCESS, FROM_NAME, TO_NAME),
+    call_form("fork", Kind.FORK, PROCESS, CHILD),
+    call_form("exit", Kind.EXIT, PROCESS),
+    call_form("label", Kind.LABEL, UNUSED, CONTAINER, ITEM),
+    Form("forbid", FORBID_TAG, b"", (ITEM, set_part("in="), ACTION)),
+    Form("separate", SEPARATE_TAG, b"", (ITEM_PAIR, ACTION)),
+    Form("confine", CONFINE_TAG, b"", (ITEM, set_part("to="), ACTION)),
 )
 FORM_OF_WORD = {form.word: form for form in FORMS}
 RAW_SHAPE = f"{RAW} HEX ..."

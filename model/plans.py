@@ -2,36 +2,11 @@
 
 from typing import List, Optional, Union
 
-from choices import Choices
-from limits import (
-    CLOSE,
-    CONTAINERS,
-    CREATE,
-    DEVICE,
-    DEVICES,
-    DIVERT_ACTION,
-    EXIT,
-    FILES,
-    FORK,
-    INHIBIT_ACTION,
-    ITEMS,
-    LABEL,
-    MAP_BOTH,
-    MAP_READ,
-    OPEN,
-    PROCESSES,
-    READ,
-    RENAME,
-    RULE_LIMIT,
-    START,
-    TRUNCATE,
-    UNLINK,
-    UNMAP,
-    WRITE,
-    process_container,
-)
-from proposals import Proposer
-from records import Call, Rule, combination, deny, limit
+from model.choices import Choices
+from model.limits import CONTAINERS, DEVICES, DIVERT_ACTION, FILES, INHIBIT_ACTION, ITEMS, PROCESSES
+from model.limits import RULE_LIMIT, Kind, process_container
+from model.proposals import Proposer
+from model.records import Call, Rule, confine, forbid, separate
 
 Plan = List[Union[Call, Rule]]
 
@@ -45,7 +20,7 @@ class Planner:
         self.table = [
             (self.chain, 3),
             (self.divert, 4),
-            (self.divert_combination, 2),
+            (self.divert_separate, 2),
             (self.reuse_process, 2),
             (self.end_use, 6),
             (self.truncate_mapped, 3),
@@ -62,7 +37,7 @@ class Planner:
         processes = self.choices.some(PROCESSES, self.choices.pick([0.15, 0.3]))
         if len(processes) < 2:
             return []
-        plan: Plan = [Call(START, p) for p in processes if p not in proposer.state.live]
+        plan: Plan = [Call(Kind.START, p) for p in processes if p not in proposer.state.live]
         files = proposer.unused_files()
         names = proposer.unbound()
         for giver, receiver in zip(processes, processes[1:]):
@@ -71,15 +46,15 @@ class Planner:
                 return plan
             file = files.pop(self.choices.below(len(files)))
             name = names.pop(self.choices.below(4))
-            mapping = self.choices.pick([MAP_READ, MAP_BOTH])
+            mapping = self.choices.pick([Kind.MAP_READ, Kind.MAP_BOTH])
             plan += [
-                Call(CREATE, giver, name, give, file),
-                Call(MAP_BOTH, giver, give),
-                Call(OPEN, receiver, name, take),
+                Call(Kind.CREATE, giver, name, give, file),
+                Call(Kind.MAP_BOTH, giver, give),
+                Call(Kind.OPEN, receiver, name, take),
                 Call(mapping, receiver, take),
             ]
-            plan += [Call(CLOSE, giver, give), Call(CLOSE, receiver, take)]
-        plan.append(Call(LABEL, 0, process_container(processes[0]), proposer.item()))
+            plan += [Call(Kind.CLOSE, giver, give), Call(Kind.CLOSE, receiver, take)]
+        plan.append(Call(Kind.LABEL, 0, process_container(processes[0]), proposer.item()))
         return plan
 
     def divert(self) -> Plan:
@@ -93,22 +68,23 @@ class Planner:
             return []
         substitute = self._substitute(device)
         forbidden = {device, *self.choices.some(DEVICES, 0.1)}
-        rule = deny(item, forbidden, DIVERT_ACTION, substitute)
+        rule = forbid(item, forbidden, DIVERT_ACTION, substitute)
         if self.choices.chance(0.3):
-            rule = limit(item, set(CONTAINERS) - {device}, DIVERT_ACTION, substitute)
+            rule = confine(item, set(CONTAINERS) - {device}, DIVERT_ACTION, substitute)
         descriptor = self.choices.near(self.proposer.closed(process))
-        plan: Plan = [Call(LABEL, 0, process_container(process), item), rule]
+        plan: Plan = [Call(Kind.LABEL, 0, process_container(process), item), rule]
         if self.choices.chance(0.15):
-            plan.insert(1, deny(item, [substitute], INHIBIT_ACTION, 0))
-        plan += [Call(DEVICE, process, descriptor, device), Call(WRITE, process, descriptor)]
+            plan.insert(1, forbid(item, [substitute], INHIBIT_ACTION, 0))
+        plan.append(Call(Kind.DEVICE, process, descriptor, device))
+        plan.append(Call(Kind.WRITE, process, descriptor))
         if self.choices.chance(0.3):
-            plan.append(Call(MAP_BOTH, process, descriptor))
+            plan.append(Call(Kind.MAP_BOTH, process, descriptor))
         if self.choices.chance(0.3):
-            plan.append(Call(LABEL, 0, device, item))
+            plan.append(Call(Kind.LABEL, 0, device, item))
         return plan
 
-    def divert_combination(self) -> Plan:
-        """Load a diverting combination rule and bring its items together."""
+    def divert_separate(self) -> Plan:
+        """Load a diverting rule that separates two items, and bring them together."""
         process = self._live()
         if process is None or not self.proposer.closed(process):
             return []
@@ -117,12 +93,13 @@ class Planner:
         device = self.choices.pick(DEVICES)
         descriptor = self.choices.near(self.proposer.closed(process))
         substitute = self._substitute(device)
+        last = self.choices.pick([Kind.WRITE, Kind.WRITE, Kind.READ, Kind.MAP_READ])
         return [
-            Call(LABEL, 0, process_container(process), first),
-            combination(first, second, DIVERT_ACTION, substitute),
-            Call(LABEL, 0, device, second),
-            Call(DEVICE, process, descriptor, device),
-            Call(self.choices.pick([WRITE, WRITE, READ, MAP_READ]), process, descriptor),
+            Call(Kind.LABEL, 0, process_container(process), first),
+            separate(first, second, DIVERT_ACTION, substitute),
+            Call(Kind.LABEL, 0, device, second),
+            Call(Kind.DEVICE, process, descriptor, device),
+            Call(last, process, descriptor),
         ]
 
     def reuse_process(self) -> Plan:
@@ -132,8 +109,8 @@ class Planner:
             return []
         process = self.choices.pick(mapped)
         container = self.choices.pick(self.proposer.mapped(process))
-        plan: Plan = [Call(EXIT, process), Call(START, process)]
-        plan.append(Call(LABEL, 0, container, self.proposer.item()))
+        plan: Plan = [Call(Kind.EXIT, process), Call(Kind.START, process)]
+        plan.append(Call(Kind.LABEL, 0, container, self.proposer.item()))
         return plan
 
     def end_use(self) -> Plan:
@@ -157,8 +134,8 @@ class Planner:
         if not found:
             return []
         process, descriptor, container = self.choices.pick(found)
-        truncate = Call(TRUNCATE, process, descriptor)
-        return [truncate, Call(UNMAP, process, container), truncate]
+        truncate = Call(Kind.TRUNCATE, process, descriptor)
+        return [truncate, Call(Kind.UNMAP, process, container), truncate]
 
     def fork_mapped(self) -> Plan:
         """Fork a mapped process and give to what feeds it."""
@@ -169,8 +146,8 @@ class Planner:
         process = self.choices.pick(mapped)
         container = self.choices.pick(self.proposer.mapped(process))
         return [
-            Call(FORK, process, self.choices.near(dead)),
-            Call(LABEL, 0, container, self.proposer.item()),
+            Call(Kind.FORK, process, self.choices.near(dead)),
+            Call(Kind.LABEL, 0, container, self.proposer.item()),
         ]
 
     def fill_rules(self) -> Plan:
@@ -200,16 +177,16 @@ class Planner:
         for name in sorted(n for n, c in state.names.items() if c == container):
             others = [n for n in self.proposer.bound() if state.names[n] != container]
             if others and self.choices.chance(0.3):
-                plan.append(Call(RENAME, caller, self.choices.pick(others), name))
+                plan.append(Call(Kind.RENAME, caller, self.choices.pick(others), name))
             else:
-                plan.append(Call(UNLINK, caller, name))
+                plan.append(Call(Kind.UNLINK, caller, name))
         for key in sorted(k for k, c in state.descriptors.items() if c == container):
-            plan.append(Call(CLOSE, *key))
+            plan.append(Call(Kind.CLOSE, *key))
         for process in self.proposer.live():
             if container in self.proposer.mapped(process):
-                plan.append(Call(UNMAP, process, container))
+                plan.append(Call(Kind.UNMAP, process, container))
         if self.choices.chance(0.5):
             plan.reverse()
-        if plan[-1].kind in (CLOSE, UNMAP) and self.choices.chance(0.2):
-            plan[-1] = Call(EXIT, plan[-1].process)
+        if plan[-1].kind in (Kind.CLOSE, Kind.UNMAP) and self.choices.chance(0.2):
+            plan[-1] = Call(Kind.EXIT, plan[-1].process)
         return plan

@@ -2,68 +2,34 @@
 
 from typing import Dict, Iterable, List, Optional, Tuple
 
-from choices import Choices
-from limits import (
-    ACTIONS,
-    CLOSE,
-    COMBINATION_TAG,
-    CONTAINERS,
-    CREATE,
-    DENY_TAG,
-    DESCRIPTORS,
-    DEVICE,
-    DEVICES,
-    DIVERT_ACTION,
-    DUP,
-    EXIT,
-    FILES,
-    FORK,
-    INHIBIT_ACTION,
-    ITEMS,
-    LABEL,
-    LIMIT_TAG,
-    LINK,
-    MAP_BOTH,
-    MAP_READ,
-    NAMES,
-    OPEN,
-    PIPE,
-    PROCESSES,
-    READ,
-    RENAME,
-    START,
-    TRUNCATE,
-    UNLINK,
-    UNMAP,
-    WRITE,
-    process_container,
-)
-from records import Call, Rule, combination, deny, limit
-from tracker import FIELD_RANGES, State, Tracker, substitutes
-
-FIELDS = Call._fields[1:]
+from model.choices import Choices
+from model.limits import ACTIONS, CONFINE_TAG, CONTAINERS, DESCRIPTORS, DEVICES, DIVERT_ACTION
+from model.limits import FILES, FORBID_TAG, INHIBIT_ACTION, ITEMS, NAMES, PROCESSES, SEPARATE_TAG
+from model.limits import Kind, process_container
+from model.records import CALL_FIELDS, Call, Rule, confine, forbid, separate
+from model.tracker import FIELD_RANGES, State, Tracker, substitutes
 
 # What each field of a call names in the present state.
 ROLES: Dict[int, Tuple[str, str, str, str]] = {
-    START: ("dead process", "zero", "zero", "zero"),
-    OPEN: ("live process", "bound name", "closed descriptor", "zero"),
-    CREATE: ("live process", "unbound name", "closed descriptor", "unused file"),
-    PIPE: ("live process", "closed descriptor", "closed descriptor", "unused file"),
-    DEVICE: ("live process", "closed descriptor", "device", "zero"),
-    DUP: ("live process", "open descriptor", "closed descriptor", "zero"),
-    CLOSE: ("live process", "open descriptor", "zero", "zero"),
-    READ: ("live process", "open descriptor", "zero", "zero"),
-    WRITE: ("live process", "open descriptor", "zero", "zero"),
-    TRUNCATE: ("live process", "file descriptor", "zero", "zero"),
-    MAP_READ: ("live process", "open descriptor", "zero", "zero"),
-    MAP_BOTH: ("live process", "open descriptor", "zero", "zero"),
-    UNMAP: ("live process", "mapped container", "zero", "zero"),
-    UNLINK: ("live process", "bound name", "zero", "zero"),
-    RENAME: ("live process", "bound name", "any name", "zero"),
-    LINK: ("live process", "bound name", "unbound name", "zero"),
-    FORK: ("live process", "dead process", "zero", "zero"),
-    EXIT: ("live process", "zero", "zero", "zero"),
-    LABEL: ("zero", "used container", "item", "zero"),
+    Kind.START: ("dead process", "zero", "zero", "zero"),
+    Kind.OPEN: ("live process", "bound name", "closed descriptor", "zero"),
+    Kind.CREATE: ("live process", "unbound name", "closed descriptor", "unused file"),
+    Kind.PIPE: ("live process", "closed descriptor", "closed descriptor", "unused file"),
+    Kind.DEVICE: ("live process", "closed descriptor", "device", "zero"),
+    Kind.DUP: ("live process", "open descriptor", "closed descriptor", "zero"),
+    Kind.CLOSE: ("live process", "open descriptor", "zero", "zero"),
+    Kind.READ: ("live process", "open descriptor", "zero", "zero"),
+    Kind.WRITE: ("live process", "open descriptor", "zero", "zero"),
+    Kind.TRUNCATE: ("live process", "file descriptor", "zero", "zero"),
+    Kind.MAP_READ: ("live process", "open descriptor", "zero", "zero"),
+    Kind.MAP_BOTH: ("live process", "open descriptor", "zero", "zero"),
+    Kind.UNMAP: ("live process", "mapped container", "zero", "zero"),
+    Kind.UNLINK: ("live process", "bound name", "zero", "zero"),
+    Kind.RENAME: ("live process", "bound name", "any name", "zero"),
+    Kind.LINK: ("live process", "bound name", "unbound name", "zero"),
+    Kind.FORK: ("live process", "dead process", "zero", "zero"),
+    Kind.EXIT: ("live process", "zero", "zero", "zero"),
+    Kind.LABEL: ("zero", "used container", "item", "zero"),
 }
 
 
@@ -150,7 +116,7 @@ class Proposer:
         values = [process]
         for role in ROLES[kind][1:]:
             fitting = self.fitting(role, process)
-            if kind == PIPE and role == "closed descriptor":
+            if kind == Kind.PIPE and role == "closed descriptor":
                 fitting = [d for d in fitting if d not in values[1:]]
             if not fitting:
                 return None
@@ -164,7 +130,7 @@ class Proposer:
         """The call with some fields in the wrong state or outside their range."""
         changes = {}
         for name in fields:
-            index = FIELDS.index(name)
+            index = CALL_FIELDS.index(name)
             allowed = FIELD_RANGES[call.kind][index]
             fitting = self.fitting(ROLES[call.kind][index], call.process)
             wrong = [value for value in allowed if value not in fitting]
@@ -186,22 +152,22 @@ class Proposer:
 
     def rule(self) -> Optional[Rule]:
         """A rule that the present state keeps, or None."""
-        tag = self.choices.weighted([(DENY_TAG, 5), (COMBINATION_TAG, 2), (LIMIT_TAG, 2)])
+        tag = self.choices.weighted([(FORBID_TAG, 5), (SEPARATE_TAG, 2), (CONFINE_TAG, 2)])
         action, substitute = self.action()
         item = self.item()
         holders = self.state.holders(item)
-        if tag == DENY_TAG:
+        if tag == FORBID_TAG:
             free = [c for c in CONTAINERS if c not in holders]
-            denied = self.choices.some(free, self.choices.pick([0.05, 0.2]))
-            return deny(item, denied, action, substitute)
-        if tag == LIMIT_TAG:
+            forbidden = self.choices.some(free, self.choices.pick([0.05, 0.2]))
+            return forbid(item, forbidden, action, substitute)
+        if tag == CONFINE_TAG:
             allowed = self.choices.some(CONTAINERS, 0.9) + holders
-            return limit(item, allowed, action, substitute)
+            return confine(item, allowed, action, substitute)
         together = {i for held in self.state.items.values() if item in held for i in held}
         apart = [i for i in ITEMS if i != item and i not in together]
         if not apart:
             return None
-        return combination(item, self.choices.pick(apart), action, substitute)
+        return separate(item, self.choices.pick(apart), action, substitute)
 
     def broken_rule(self) -> Optional[Rule]:
         """A rule that the present state breaks, or None."""
@@ -214,14 +180,14 @@ class Proposer:
         action, substitute = self.action()
         if len(held) > 1 and self.choices.chance(0.4):
             other = self.choices.pick([i for i in held if i != item])
-            return combination(item, other, action, substitute)
+            return separate(item, other, action, substitute)
         if self.choices.chance(0.5):
             outside = [c for c in CONTAINERS if c != container]
-            return limit(item, self.choices.some(outside, 0.5), action, substitute)
-        return deny(item, [container, *self.choices.some(CONTAINERS, 0.1)], action, substitute)
+            return confine(item, self.choices.some(outside, 0.5), action, substitute)
+        return forbid(item, [container, *self.choices.some(CONTAINERS, 0.1)], action, substitute)
 
     def harmless_rule(self) -> Rule:
         """A rule that no state breaks."""
         if self.choices.chance(0.5):
-            return deny(self.choices.pick(ITEMS), [], INHIBIT_ACTION, 0)
-        return limit(self.choices.pick(ITEMS), CONTAINERS, DIVERT_ACTION, 0)
+            return forbid(self.choices.pick(ITEMS), [], INHIBIT_ACTION, 0)
+        return confine(self.choices.pick(ITEMS), CONTAINERS, DIVERT_ACTION, 0)

@@ -2,16 +2,8 @@
 
 from typing import FrozenSet, Iterable, NamedTuple, Optional, Tuple, Union
 
-from limits import (
-    CALL_TAG,
-    COMBINATION_TAG,
-    CONTAINERS,
-    DENY_TAG,
-    HEADER_LENGTH,
-    LIMIT_TAG,
-    SET_BYTES,
-    process_container,
-)
+from model.limits import CALL_TAG, CONFINE_TAG, CONTAINERS, FORBID_TAG, HEADER_LENGTH, SEPARATE_TAG
+from model.limits import SET_BYTES, process_container
 
 
 class Call(NamedTuple):
@@ -29,14 +21,20 @@ class Call(NamedTuple):
         return process_container(self.process)
 
 
+CALL_FIELDS = Call._fields[1:]  # those after the kind
+
+
 class Rule(NamedTuple):
-    """A rule; the container set is empty for a combination rule."""
+    """A rule; the container set is empty for one that separates."""
 
     tag: int
     items: Tuple[int, ...]
     containers: FrozenSet[int]
     action: int
     substitute: int
+
+
+RULE_ITEMS = ("first", "second")  # the items of a rule as fields
 
 
 class Frame(NamedTuple):
@@ -47,19 +45,19 @@ class Frame(NamedTuple):
     end: int
 
 
-def deny(item: int, containers: Iterable[int], action: int = 0, substitute: int = 0) -> Rule:
+def forbid(item: int, containers: Iterable[int], action: int = 0, substitute: int = 0) -> Rule:
     """Tag 11 hex: broken when a container of the set holds the item."""
-    return Rule(DENY_TAG, (item,), frozenset(containers), action, substitute)
+    return Rule(FORBID_TAG, (item,), frozenset(containers), action, substitute)
 
 
-def combination(first: int, second: int, action: int = 0, substitute: int = 0) -> Rule:
+def separate(first: int, second: int, action: int = 0, substitute: int = 0) -> Rule:
     """Tag 12 hex: broken when one container holds both items."""
-    return Rule(COMBINATION_TAG, (first, second), frozenset(), action, substitute)
+    return Rule(SEPARATE_TAG, (first, second), frozenset(), action, substitute)
 
 
-def limit(item: int, containers: Iterable[int], action: int = 0, substitute: int = 0) -> Rule:
+def confine(item: int, containers: Iterable[int], action: int = 0, substitute: int = 0) -> Rule:
     """Tag 13 hex: broken when a container outside the set holds the item."""
-    return Rule(LIMIT_TAG, (item,), frozenset(containers), action, substitute)
+    return Rule(CONFINE_TAG, (item,), frozenset(containers), action, substitute)
 
 
 def frame_bytes(tag: int, value: bytes) -> bytes:
@@ -72,7 +70,7 @@ def encode(record: Union[Call, Rule]) -> bytes:
     if isinstance(record, Call):
         return frame_bytes(CALL_TAG, bytes(record))
     value = bytes(record.items)
-    if record.tag != COMBINATION_TAG:
+    if record.tag != SEPARATE_TAG:
         bits = sum(1 << container for container in record.containers)
         value += bits.to_bytes(SET_BYTES, "big")
     return frame_bytes(record.tag, value + bytes([record.action, record.substitute]))
@@ -86,19 +84,31 @@ def decode_call(value: bytes) -> Call:
 def decode_rule(tag: int, value: bytes) -> Rule:
     """The rule in a value of the right length."""
     action, substitute = value[-2], value[-1]
-    if tag == COMBINATION_TAG:
-        return combination(value[0], value[1], action, substitute)
+    if tag == SEPARATE_TAG:
+        return separate(value[0], value[1], action, substitute)
     bits = int.from_bytes(value[1 : 1 + SET_BYTES], "big")
     containers = frozenset(c for c in CONTAINERS if bits >> c & 1)
     return Rule(tag, (value[0],), containers, action, substitute)
 
 
-def read_frame(log: bytes, position: int = 0) -> Optional[Frame]:
-    """Measure the record at a position; None if it runs past the end."""
+def decode(frame: Frame) -> Union[Call, Rule]:
+    """The call or the rule in a record of a known tag and the right length."""
+    if frame.tag == CALL_TAG:
+        return decode_call(frame.value)
+    return decode_rule(frame.tag, frame.value)
+
+
+def stated_length(log: bytes, position: int = 0) -> int:
+    """How long the record at a position is to be; that of a header if it ends within that."""
     start = position + HEADER_LENGTH
     if start > len(log):
-        return None
-    end = start + int.from_bytes(log[position + 1 : start], "big")
+        return HEADER_LENGTH
+    return HEADER_LENGTH + int.from_bytes(log[position + 1 : start], "big")
+
+
+def read_frame(log: bytes, position: int = 0) -> Optional[Frame]:
+    """Measure the record at a position; None if it runs past the end."""
+    end = position + stated_length(log, position)
     if end > len(log):
         return None
-    return Frame(log[position], log[start:end], end)
+    return Frame(log[position], log[position + HEADER_LENGTH : end], end)

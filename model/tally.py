@@ -3,17 +3,10 @@
 from collections import Counter
 from typing import List, Set
 
-from limits import (
-    CALL_TAG,
-    DIVERT_ACTION,
-    EXIT,
-    FILES,
-    FORK,
-    START,
-    TRUNCATE,
-)
-from records import Call, decode_call, decode_rule, read_frame
-from tracker import Answer, State, Tracker, broken_rules, divert_obstacle, frame_refusals, work_out
+from model.limits import CALL_TAG, DIVERT_ACTION, FILES, Kind
+from model.records import Call, decode_call, decode_rule, read_frame
+from model.tracker import Answer, State, Tracker, broken_rules, divert_obstacle, frame_refusals
+from model.tracker import work_out
 
 
 class Tally:
@@ -80,7 +73,7 @@ class Tally:
         self._count_emptied(call, before, after)
         self._count_processes(call, before, exited)
         gained = {c for c in after.items if after.items[c] - before.items[c]}
-        if gained and call.kind != FORK:
+        if gained and call.kind != Kind.FORK:
             self._count_gift(before, gained)
         if after.links != before.links:
             for source in {source for source, _ in after.links}:
@@ -91,18 +84,18 @@ class Tally:
         emptied = [c for c in FILES if before.items[c] and not after.items[c]]
         if emptied:
             self.events[f"emptied by kind {call.kind}"] += 1
-        if call.kind == TRUNCATE and before == after:
+        if call.kind == Kind.TRUNCATE and before == after:
             container = before.descriptors[call.process, call.a]
             if before.items[container]:
                 self.events["truncate kept items"] += 1
 
     def _count_processes(self, call: Call, before: State, exited: Set[int]) -> None:
         mapped = any(call.caller in pair for pair in before.links)
-        if call.kind == FORK and mapped:
+        if call.kind == Kind.FORK and mapped:
             self.events["fork of a mapped process"] += 1
-        if call.kind == EXIT and mapped:
+        if call.kind == Kind.EXIT and mapped:
             exited.add(call.process)
-        if call.kind == START and call.process in exited:
+        if call.kind == Kind.START and call.process in exited:
             self.events["start again after a mapped exit"] += 1
 
     def _count_gift(self, before: State, gained: Set[int]) -> None:

@@ -6,11 +6,11 @@ import sys
 import tempfile
 from typing import List, Optional
 
-from checks import Checks, Options
-from generate import generate_records
-from limits import LOG_LIMIT
-from logtext import disassemble
-from test_runs import RUN_B_INPUT, RUN_B_OUTPUT
+from model.checks import Checks, Options
+from model.generate import generate_records
+from model.limits import LOG_LIMIT
+from model.logtext import disassemble
+from model.test_runs import RUN_B_INPUT, RUN_B_OUTPUT
 
 HERE = os.path.dirname(os.path.abspath(__file__))
 COMMAND = [sys.executable, os.path.join(HERE, "modelrun")]

@@ -3,12 +3,13 @@
 
 import argparse
 import sys
+from pathlib import Path
 
-import test_commands
-import test_random
-import test_refusals
-import test_runs
-from checks import Checks, Options
+ROOT = Path(__file__).resolve().parents[1]
+sys.path.insert(0, str(ROOT))
+
+from model import test_commands, test_random, test_refusals, test_runs  # noqa: E402
+from model.checks import Checks, Options  # noqa: E402
 
 DEFAULT_SEED = 20260
 DEFAULT_CASES = 100

@@ -4,42 +4,17 @@ import functools
 from typing import Dict, List, Tuple
 from unittest import mock
 
-import tracker
-from checks import Checks, Options
-from choices import Choices
-from contents import (
-    MixedFunctions,
-    RecordStep,
-    Step,
-    TwinReport,
-    TwinRun,
-    VariedFunctions,
-    call_of,
-    exactness_faults,
-)
-from generate import MIXES, generate_records, generate_steps
-from limits import (
-    CLOSE,
-    COMBINATION_TAG,
-    CONTAINERS,
-    DENY_TAG,
-    EXIT,
-    FILES,
-    FORK,
-    KINDS,
-    LABEL,
-    LIMIT_TAG,
-    MAP_BOTH,
-    PROCESS_CONTAINERS,
-    RENAME,
-    TRUNCATE,
-    UNLINK,
-    UNMAP,
-    process_container,
-)
-from records import Call, Rule, read_frame
-from tally import Tally
-from tracker import NO_ITEMS, State, Tracker
+from model import tracker
+from model.checks import Checks, Options
+from model.choices import Choices
+from model.contents import MixedFunctions, RecordStep, Step, TwinReport, TwinRun, VariedFunctions
+from model.contents import call_of, exactness_faults
+from model.generate import MIXES, generate_records, generate_steps
+from model.limits import CONFINE_TAG, CONTAINERS, FILES, FORBID_TAG, KINDS, PROCESS_CONTAINERS
+from model.limits import RECORD_REFUSALS, SEPARATE_TAG, Kind, Refusal, process_container
+from model.records import Call, Rule, read_frame
+from model.tally import Tally
+from model.tracker import NO_ITEMS, State, Tracker
 
 STEPS = 160
 RECORDS = 150
@@ -62,9 +37,9 @@ def chosen_items(seed: int, steps: List[Step]) -> List[int]:
     """Some of the labelled items, or one of them that a rule is about."""
     choices = Choices(seed)
     calls = [call for call in map(call_of, steps) if call is not None]
-    labelled = sorted({call.b for call in calls if call.kind == LABEL})
+    labelled = sorted({call.b for call in calls if call.kind == Kind.LABEL})
     frames = [read_frame(step.data) for step in steps if isinstance(step, RecordStep)]
-    ruled = {f.value[0] for f in frames if f and f.value and f.tag in (DENY_TAG, LIMIT_TAG)}
+    ruled = {f.value[0] for f in frames if f and f.value and f.tag in (FORBID_TAG, CONFINE_TAG)}
     both = [item for item in labelled if item in ruled]
     if both and choices.chance(0.5):
         return [choices.pick(both)]
@@ -143,16 +118,14 @@ def map_both_only_reads(state: State, call: Call) -> None:
     state.items[state.descriptors[call.process, call.a]] = written
 
 
-right_exit = tracker.EFFECTS[EXIT]
-right_fork = tracker.EFFECTS[FORK]
-right_map_both = tracker.EFFECTS[MAP_BOTH]
-right_is_broken = tracker.is_broken
+right_exit = tracker.EFFECTS[Kind.EXIT]
+right_fork = tracker.EFFECTS[Kind.FORK]
+right_map_both = tracker.EFFECTS[Kind.MAP_BOTH]
+right_broken_places = tracker.broken_places
 
 
-def broken_outside_processes(state: State, rule: Rule) -> bool:
-    seen = state.copy()
-    seen.items.update(dict.fromkeys(PROCESS_CONTAINERS, NO_ITEMS))
-    return right_is_broken(seen, rule)
+def broken_outside_processes(state: State, rule: Rule) -> List[int]:
+    return [c for c in right_broken_places(state, rule) if c not in PROCESS_CONTAINERS]
 
 
 def give_to_all(state: State, container: int, given: frozenset) -> None:
@@ -163,12 +136,12 @@ def give_to_all(state: State, container: int, given: frozenset) -> None:
 UNSAFE = {
     "one link": lambda: limited_reach(1),
     "three links": lambda: limited_reach(3),
-    "truncate always empties": lambda: wrong_effect(TRUNCATE, truncate_always),
-    "exit leaves links": lambda: wrong_effect(EXIT, exit_leaves_links),
-    "fork without items": lambda: wrong_effect(FORK, fork_without_items),
-    "map both only reads": lambda: wrong_effect(MAP_BOTH, map_both_only_reads),
+    "truncate always empties": lambda: wrong_effect(Kind.TRUNCATE, truncate_always),
+    "exit leaves links": lambda: wrong_effect(Kind.EXIT, exit_leaves_links),
+    "fork without items": lambda: wrong_effect(Kind.FORK, fork_without_items),
+    "map both only reads": lambda: wrong_effect(Kind.MAP_BOTH, map_both_only_reads),
     "rules spare processes": lambda: mock.patch.object(
-        tracker, "is_broken", broken_outside_processes
+        tracker, "broken_places", broken_outside_processes
     ),
 }
 INEXACT = {
@@ -264,8 +237,21 @@ def batch(options: Options, mix: str) -> Tally:
     return tally
 
 
-PAIRS = [(4, 5), (5, 6), (5, 7), (5, 8), (5, 9), (6, 7), (6, 8), (7, 8), (7, 9)]
-PAIRS += [(9, 11), (9, 12), (11, 12)]
+PAIRS = [
+    (Refusal.UNKNOWN_KIND, Refusal.OUT_OF_RANGE),
+    (Refusal.OUT_OF_RANGE, Refusal.DEAD_PROCESS),
+    (Refusal.OUT_OF_RANGE, Refusal.TAKEN),
+    (Refusal.OUT_OF_RANGE, Refusal.MISSING),
+    (Refusal.OUT_OF_RANGE, Refusal.SAME_TWICE),
+    (Refusal.DEAD_PROCESS, Refusal.TAKEN),
+    (Refusal.DEAD_PROCESS, Refusal.MISSING),
+    (Refusal.TAKEN, Refusal.MISSING),
+    (Refusal.TAKEN, Refusal.SAME_TWICE),
+    (Refusal.SAME_TWICE, Refusal.RULES_FULL),
+    (Refusal.SAME_TWICE, Refusal.BROKEN_ALREADY),
+    (Refusal.RULES_FULL, Refusal.BROKEN_ALREADY),
+]
+EMPTYING = (Kind.CLOSE, Kind.TRUNCATE, Kind.UNMAP, Kind.UNLINK, Kind.RENAME, Kind.EXIT)
 EVENTS = [
     "inhibit: action inhibits",
     "inhibit: not a write",
@@ -276,7 +262,7 @@ EVENTS = [
     "truncate kept items",
     "fork of a mapped process",
     "start again after a mapped exit",
-    *(f"emptied by kind {kind}" for kind in (CLOSE, TRUNCATE, UNMAP, UNLINK, RENAME, EXIT)),
+    *(f"emptied by kind {kind}" for kind in EMPTYING),
 ]
 
 
@@ -285,7 +271,7 @@ def check_tallies(checks: Checks, tallies: Dict[str, Tally]) -> None:
     for word in ("allow", "inhibit", "modify", "rule", "refused"):
         count = sum(tally.words[word] for tally in tallies.values())
         checks.true(f"generated: {word}", count > 0)
-    for number in range(1, 13):
+    for number in RECORD_REFUSALS:
         for mix, tally in tallies.items():
             checks.true(f"generated, {mix}: refused {number}", tally.refusals[number] > 0)
     for pair in PAIRS:
@@ -293,7 +279,7 @@ def check_tallies(checks: Checks, tallies: Dict[str, Tally]) -> None:
         checks.true(f"generated: refusals {pair} at once", count > 0)
     for kind in KINDS:
         checks.true(f"generated: kind {kind} done", tallies["deep"].done_kinds[kind] > 0)
-    for tag in (DENY_TAG, COMBINATION_TAG, LIMIT_TAG):
+    for tag in (FORBID_TAG, SEPARATE_TAG, CONFINE_TAG):
         for action in (0, 1):
             count = tallies["deep"].rules[tag, action]
             checks.true(f"generated: rule of tag {tag:x}, action {action}", count > 0)

@@ -2,151 +2,140 @@
 
 from typing import List, Set, Tuple, Union
 
-from checks import Checks, Options
-from limits import (
-    CALL_TAG,
-    CLOSE,
-    CONTAINERS,
-    CREATE,
-    DENY_TAG,
-    DEVICE,
-    DUP,
-    EXIT,
-    FORK,
-    LABEL,
-    LINK,
-    MAP_BOTH,
-    MAP_READ,
-    OPEN,
-    PIPE,
-    READ,
-    RENAME,
-    START,
-    TRUNCATE,
-    UNLINK,
-    UNMAP,
-    WRITE,
-)
-from records import Call, Rule, combination, deny, encode, frame_bytes, limit, read_frame
-from test_runs import allows
-from tracker import Tracker, call_refusals, frame_refusals, refused, rule_refusals
+from model.checks import Checks, Options
+from model.limits import ACTIONS, CALL_TAG, CONTAINERS, FORBID_TAG, ITEMS, KINDS, PROCESSES, Kind
+from model.limits import Refusal
+from model.records import Call, Rule, confine, encode, forbid, frame_bytes, read_frame, separate
+from model.test_runs import allows
+from model.tracker import CONTAINER, DESCRIPTOR, LINK, NAME, PROCESS, Fact, Tracker, frame_refusals
+from model.tracker import record_facts, refusals, refused
 
 # Processes 0 and 1 live; name 5 and descriptor 0 lead to 24, which holds items 1
 # and 2; descriptor 1 leads to device 1; 16 lies in device 2 alone.
 SETUP = [
-    Call(START, 0),
-    Call(START, 1),
-    Call(CREATE, 0, 5, 0, 24),
-    Call(DEVICE, 0, 1, 1),
-    Call(LABEL, 0, 24, 1),
-    Call(LABEL, 0, 24, 2),
-    Call(LABEL, 0, 2, 16),
+    Call(Kind.START, 0),
+    Call(Kind.START, 1),
+    Call(Kind.CREATE, 0, 5, 0, 24),
+    Call(Kind.DEVICE, 0, 1, 1),
+    Call(Kind.LABEL, 0, 24, 1),
+    Call(Kind.LABEL, 0, 24, 2),
+    Call(Kind.LABEL, 0, 2, 16),
 ]
-FULL = SETUP + [deny(40, [])] * 32
+FULL = SETUP + [forbid(40, [])] * 32
 
-Case = Tuple[Union[Call, Rule], Set[int]]
+Case = Tuple[Union[Call, Rule], Set[Refusal]]
 
 CALL_CASES: List[Case] = [
-    (Call(0), {4}),
-    (Call(20), {4}),
-    (Call(255, 255, 255, 255, 255), {4}),
-    (Call(START, 16), {5}),
-    (Call(LABEL, 1, 24, 1), {5}),
-    (Call(UNLINK, 0, 5, 0, 1), {5}),
-    (Call(DEVICE, 2, 0, 1), {6}),
-    (Call(UNLINK, 2, 5), {6}),
-    (Call(EXIT, 15), {6}),
-    (Call(FORK, 2, 3), {6}),
-    (Call(START, 0), {7}),
-    (Call(FORK, 0, 1), {7}),
-    (Call(FORK, 0, 0), {7}),
-    (Call(OPEN, 0, 5, 0), {7}),
-    (Call(CREATE, 0, 5, 2, 25), {7}),
-    (Call(CREATE, 0, 6, 0, 25), {7}),
-    (Call(CREATE, 0, 6, 2, 24), {7}),
-    (Call(PIPE, 0, 0, 2, 25), {7}),
-    (Call(PIPE, 0, 2, 0, 25), {7}),
-    (Call(PIPE, 0, 2, 3, 24), {7}),
-    (Call(DEVICE, 0, 0, 7), {7}),
-    (Call(DUP, 0, 0, 1), {7}),
-    (Call(DUP, 0, 0, 0), {7}),
-    (Call(LINK, 0, 5, 5), {7}),
-    (Call(OPEN, 0, 6, 2), {8}),
-    (Call(DUP, 0, 3, 2), {8}),
-    (Call(DUP, 0, 3, 3), {8}),
-    (Call(CLOSE, 1, 0), {8}),
-    (Call(READ, 1, 0), {8}),
-    (Call(WRITE, 1, 0), {8}),
-    (Call(TRUNCATE, 1, 0), {8}),
-    (Call(MAP_READ, 1, 0), {8}),
-    (Call(MAP_BOTH, 1, 0), {8}),
-    (Call(UNMAP, 0, 24), {8}),
-    (Call(UNMAP, 0, 8), {8}),
-    (Call(UNMAP, 0, 23), {8}),
-    (Call(UNLINK, 0, 6), {8}),
-    (Call(RENAME, 0, 6, 5), {8}),
-    (Call(RENAME, 0, 6, 6), {8}),
-    (Call(LINK, 0, 6, 7), {8}),
-    (Call(LINK, 0, 6, 6), {8}),
-    (Call(LABEL, 0, 25, 1), {8}),
-    (Call(LABEL, 0, 10, 1), {8}),
-    (Call(PIPE, 0, 3, 3, 25), {9}),
-    (Call(TRUNCATE, 0, 1), {10}),
+    (Call(0), {Refusal.UNKNOWN_KIND}),
+    (Call(20), {Refusal.UNKNOWN_KIND}),
+    (Call(255, 255, 255, 255, 255), {Refusal.UNKNOWN_KIND}),
+    (Call(Kind.START, 16), {Refusal.OUT_OF_RANGE}),
+    (Call(Kind.LABEL, 1, 24, 1), {Refusal.OUT_OF_RANGE}),
+    (Call(Kind.UNLINK, 0, 5, 0, 1), {Refusal.OUT_OF_RANGE}),
+    (Call(Kind.DEVICE, 2, 0, 1), {Refusal.DEAD_PROCESS}),
+    (Call(Kind.UNLINK, 2, 5), {Refusal.DEAD_PROCESS}),
+    (Call(Kind.EXIT, 15), {Refusal.DEAD_PROCESS}),
+    (Call(Kind.FORK, 2, 3), {Refusal.DEAD_PROCESS}),
+    (Call(Kind.START, 0), {Refusal.TAKEN}),
+    (Call(Kind.FORK, 0, 1), {Refusal.TAKEN}),
+    (Call(Kind.FORK, 0, 0), {Refusal.TAKEN}),
+    (Call(Kind.OPEN, 0, 5, 0), {Refusal.TAKEN}),
+    (Call(Kind.CREATE, 0, 5, 2, 25), {Refusal.TAKEN}),
+    (Call(Kind.CREATE, 0, 6, 0, 25), {Refusal.TAKEN}),
+    (Call(Kind.CREATE, 0, 6, 2, 24), {Refusal.TAKEN}),
+    (Call(Kind.PIPE, 0, 0, 2, 25), {Refusal.TAKEN}),
+    (Call(Kind.PIPE, 0, 2, 0, 25), {Refusal.TAKEN}),
+    (Call(Kind.PIPE, 0, 2, 3, 24), {Refusal.TAKEN}),
+    (Call(Kind.DEVICE, 0, 0, 7), {Refusal.TAKEN}),
+    (Call(Kind.DUP, 0, 0, 1), {Refusal.TAKEN}),
+    (Call(Kind.DUP, 0, 0, 0), {Refusal.TAKEN}),
+    (Call(Kind.LINK, 0, 5, 5), {Refusal.TAKEN}),
+    (Call(Kind.OPEN, 0, 6, 2), {Refusal.MISSING}),
+    (Call(Kind.DUP, 0, 3, 2), {Refusal.MISSING}),
+    (Call(Kind.DUP, 0, 3, 3), {Refusal.MISSING}),
+    (Call(Kind.CLOSE, 1, 0), {Refusal.MISSING}),
+    (Call(Kind.READ, 1, 0), {Refusal.MISSING}),
+    (Call(Kind.WRITE, 1, 0), {Refusal.MISSING}),
+    (Call(Kind.TRUNCATE, 1, 0), {Refusal.MISSING}),
+    (Call(Kind.MAP_READ, 1, 0), {Refusal.MISSING}),
+    (Call(Kind.MAP_BOTH, 1, 0), {Refusal.MISSING}),
+    (Call(Kind.UNMAP, 0, 24), {Refusal.MISSING}),
+    (Call(Kind.UNMAP, 0, 8), {Refusal.MISSING}),
+    (Call(Kind.UNMAP, 0, 23), {Refusal.MISSING}),
+    (Call(Kind.UNLINK, 0, 6), {Refusal.MISSING}),
+    (Call(Kind.RENAME, 0, 6, 5), {Refusal.MISSING}),
+    (Call(Kind.RENAME, 0, 6, 6), {Refusal.MISSING}),
+    (Call(Kind.LINK, 0, 6, 7), {Refusal.MISSING}),
+    (Call(Kind.LINK, 0, 6, 6), {Refusal.MISSING}),
+    (Call(Kind.LABEL, 0, 25, 1), {Refusal.MISSING}),
+    (Call(Kind.LABEL, 0, 10, 1), {Refusal.MISSING}),
+    (Call(Kind.PIPE, 0, 3, 3, 25), {Refusal.SAME_TWICE}),
+    (Call(Kind.TRUNCATE, 0, 1), {Refusal.NO_FILE}),
 ]
 
 SEVERAL_CASES: List[Case] = [
-    (Call(DEVICE, 2, 0, 8), {5, 6}),
-    (Call(OPEN, 0, 5, 0, 1), {5, 7}),
-    (Call(CLOSE, 0, 2, 1), {5, 8}),
-    (Call(PIPE, 0, 32, 32, 25), {5, 9}),
-    (Call(TRUNCATE, 0, 1, 0, 255), {5, 10}),
-    (Call(CREATE, 2, 5, 0, 25), {6, 7}),
-    (Call(READ, 2, 0), {6, 8}),
-    (Call(PIPE, 2, 0, 0, 25), {6, 9}),
-    (Call(OPEN, 0, 6, 0), {7, 8}),
-    (Call(DUP, 0, 3, 0), {7, 8}),
-    (Call(LINK, 0, 6, 5), {7, 8}),
-    (Call(PIPE, 0, 0, 0, 25), {7, 9}),
-    (Call(PIPE, 0, 3, 3, 24), {7, 9}),
-    (Call(LINK, 2, 6, 5), {6, 7, 8}),
-    (deny(99, [], 7), {4, 5}),
-    (combination(3, 3, 2), {4, 9}),
-    (deny(1, [24], 2), {4, 12}),
-    (combination(64, 64), {5, 9}),
-    (deny(1, [24], 0, 1), {5, 12}),
-    (combination(1, 1), {9, 12}),
+    (Call(Kind.DEVICE, 2, 0, 8), {Refusal.OUT_OF_RANGE, Refusal.DEAD_PROCESS}),
+    (Call(Kind.OPEN, 0, 5, 0, 1), {Refusal.OUT_OF_RANGE, Refusal.TAKEN}),
+    (Call(Kind.CLOSE, 0, 2, 1), {Refusal.OUT_OF_RANGE, Refusal.MISSING}),
+    (Call(Kind.PIPE, 0, 32, 32, 25), {Refusal.OUT_OF_RANGE, Refusal.SAME_TWICE}),
+    (Call(Kind.TRUNCATE, 0, 1, 0, 255), {Refusal.OUT_OF_RANGE, Refusal.NO_FILE}),
+    (Call(Kind.CREATE, 2, 5, 0, 25), {Refusal.DEAD_PROCESS, Refusal.TAKEN}),
+    (Call(Kind.READ, 2, 0), {Refusal.DEAD_PROCESS, Refusal.MISSING}),
+    (Call(Kind.PIPE, 2, 0, 0, 25), {Refusal.DEAD_PROCESS, Refusal.SAME_TWICE}),
+    (Call(Kind.OPEN, 0, 6, 0), {Refusal.TAKEN, Refusal.MISSING}),
+    (Call(Kind.DUP, 0, 3, 0), {Refusal.TAKEN, Refusal.MISSING}),
+    (Call(Kind.LINK, 0, 6, 5), {Refusal.TAKEN, Refusal.MISSING}),
+    (Call(Kind.PIPE, 0, 0, 0, 25), {Refusal.TAKEN, Refusal.SAME_TWICE}),
+    (Call(Kind.PIPE, 0, 3, 3, 24), {Refusal.TAKEN, Refusal.SAME_TWICE}),
+    (Call(Kind.LINK, 2, 6, 5), {Refusal.DEAD_PROCESS, Refusal.TAKEN, Refusal.MISSING}),
+    (forbid(99, [], 7), {Refusal.UNKNOWN_KIND, Refusal.OUT_OF_RANGE}),
+    (separate(3, 3, 2), {Refusal.UNKNOWN_KIND, Refusal.SAME_TWICE}),
+    (forbid(1, [24], 2), {Refusal.UNKNOWN_KIND, Refusal.BROKEN_ALREADY}),
+    (separate(64, 64), {Refusal.OUT_OF_RANGE, Refusal.SAME_TWICE}),
+    (forbid(1, [24], 0, 1), {Refusal.OUT_OF_RANGE, Refusal.BROKEN_ALREADY}),
+    (separate(1, 1), {Refusal.SAME_TWICE, Refusal.BROKEN_ALREADY}),
 ]
 
 RULE_CASES: List[Case] = [
-    (deny(1, [], 2), {4}),
-    (limit(1, CONTAINERS, 255), {4}),
-    (combination(1, 3, 2), {4}),
-    (deny(64, []), {5}),
-    (combination(1, 64), {5}),
-    (combination(64, 1), {5}),
-    (deny(1, [], 0, 3), {5}),
-    (deny(1, [], 1, 8), {5}),
-    (deny(1, [], 1, 64), {5}),
-    (combination(3, 3), {9}),
-    (combination(16, 16, 1, 63), {9, 12}),
-    (deny(1, [24]), {12}),
-    (deny(1, [24], 1, 3), {12}),
-    (combination(1, 2), {12}),
-    (limit(16, []), {12}),
-    (limit(16, [3, 24]), {12}),
+    (forbid(1, [], 2), {Refusal.UNKNOWN_KIND}),
+    (confine(1, CONTAINERS, 255), {Refusal.UNKNOWN_KIND}),
+    (separate(1, 3, 2), {Refusal.UNKNOWN_KIND}),
+    (forbid(64, []), {Refusal.OUT_OF_RANGE}),
+    (separate(1, 64), {Refusal.OUT_OF_RANGE}),
+    (separate(64, 1), {Refusal.OUT_OF_RANGE}),
+    (forbid(1, [], 0, 3), {Refusal.OUT_OF_RANGE}),
+    (forbid(1, [], 1, 8), {Refusal.OUT_OF_RANGE}),
+    (forbid(1, [], 1, 64), {Refusal.OUT_OF_RANGE}),
+    (separate(3, 3), {Refusal.SAME_TWICE}),
+    (separate(16, 16, 1, 63), {Refusal.SAME_TWICE, Refusal.BROKEN_ALREADY}),
+    (forbid(1, [24]), {Refusal.BROKEN_ALREADY}),
+    (forbid(1, [24], 1, 3), {Refusal.BROKEN_ALREADY}),
+    (separate(1, 2), {Refusal.BROKEN_ALREADY}),
+    (confine(16, []), {Refusal.BROKEN_ALREADY}),
+    (confine(16, [3, 24]), {Refusal.BROKEN_ALREADY}),
 ]
 
 FULL_CASES: List[Case] = [
-    (deny(40, []), {11}),
-    (combination(3, 4), {11}),
-    (limit(50, [], 1, 24), {11}),
-    (deny(99, []), {5, 11}),
-    (deny(40, [], 9), {4, 11}),
-    (combination(3, 3), {9, 11}),
-    (deny(1, [24]), {11, 12}),
-    (combination(2, 2), {9, 11, 12}),
-    (combination(99, 99, 2), {4, 5, 9, 11}),
+    (forbid(40, []), {Refusal.RULES_FULL}),
+    (separate(3, 4), {Refusal.RULES_FULL}),
+    (confine(50, [], 1, 24), {Refusal.RULES_FULL}),
+    (forbid(99, []), {Refusal.OUT_OF_RANGE, Refusal.RULES_FULL}),
+    (forbid(40, [], 9), {Refusal.UNKNOWN_KIND, Refusal.RULES_FULL}),
+    (separate(3, 3), {Refusal.SAME_TWICE, Refusal.RULES_FULL}),
+    (forbid(1, [24]), {Refusal.RULES_FULL, Refusal.BROKEN_ALREADY}),
+    (separate(2, 2), {Refusal.SAME_TWICE, Refusal.RULES_FULL, Refusal.BROKEN_ALREADY}),
+    (
+        separate(99, 99, 2),
+        {Refusal.UNKNOWN_KIND, Refusal.OUT_OF_RANGE, Refusal.SAME_TWICE, Refusal.RULES_FULL},
+    ),
 ]
+
+
+def test_numbers(checks: Checks, options: Options) -> None:
+    checks.equal("kinds: numbers", [int(kind) for kind in Kind], list(range(1, 20)))
+    checks.equal("refusals: numbers", [int(refusal) for refusal in Refusal], list(range(1, 14)))
+    said = [str(Kind.READ), f"{Kind.READ}", f"{Kind.READ:>3}", str(refused(Refusal.TAKEN))]
+    checks.equal("numbers as they are written", said, ["8", "8", "  8", "refused 7"])
 
 
 def check_cases(checks: Checks, setup: list, cases: List[Case]) -> None:
@@ -160,6 +149,35 @@ def check_cases(checks: Checks, setup: list, cases: List[Case]) -> None:
         answer, _ = tracker.answer_record(data)
         checks.equal(f"{record}: answer", answer, refused(min(expected)))
         checks.equal(f"{record}: state", tracker.state, before)
+
+
+FACT_CASES: List[Tuple[Union[Call, Rule], Fact]] = [
+    (Call(20), Fact(Refusal.UNKNOWN_KIND, "kind", allowed=KINDS)),
+    (Call(Kind.START, 16), Fact(Refusal.OUT_OF_RANGE, "process", allowed=PROCESSES)),
+    (Call(Kind.EXIT, 15), Fact(Refusal.DEAD_PROCESS, "process", PROCESS)),
+    (Call(Kind.FORK, 0, 1), Fact(Refusal.TAKEN, "a", PROCESS)),
+    (Call(Kind.CREATE, 0, 6, 0, 25), Fact(Refusal.TAKEN, "b", DESCRIPTOR, containers=(24,))),
+    (Call(Kind.CREATE, 0, 5, 2, 25), Fact(Refusal.TAKEN, "a", NAME, containers=(24,))),
+    (Call(Kind.CREATE, 0, 6, 2, 24), Fact(Refusal.TAKEN, "c", CONTAINER)),
+    (Call(Kind.READ, 1, 0), Fact(Refusal.MISSING, "a", DESCRIPTOR)),
+    (Call(Kind.UNLINK, 0, 6), Fact(Refusal.MISSING, "a", NAME)),
+    (Call(Kind.UNMAP, 0, 24), Fact(Refusal.MISSING, "a", LINK)),
+    (Call(Kind.LABEL, 0, 25, 1), Fact(Refusal.MISSING, "a", CONTAINER)),
+    (Call(Kind.PIPE, 0, 3, 3, 25), Fact(Refusal.SAME_TWICE, "b", DESCRIPTOR)),
+    (Call(Kind.TRUNCATE, 0, 1), Fact(Refusal.NO_FILE, "a", DESCRIPTOR, containers=(1,))),
+    (forbid(1, [], 2), Fact(Refusal.UNKNOWN_KIND, "action", allowed=ACTIONS)),
+    (separate(1, 64), Fact(Refusal.OUT_OF_RANGE, "second", allowed=ITEMS)),
+    (forbid(1, [], 0, 3), Fact(Refusal.OUT_OF_RANGE, "substitute", allowed={0})),
+    (separate(3, 3), Fact(Refusal.SAME_TWICE, "second")),
+    (confine(16, [3, 24]), Fact(Refusal.BROKEN_ALREADY, containers=(2,))),
+    (separate(1, 2), Fact(Refusal.BROKEN_ALREADY, containers=(24,))),
+]
+
+
+def test_facts(checks: Checks, options: Options) -> None:
+    state = allows(SETUP).state
+    for record, fact in FACT_CASES:
+        checks.equal(f"{record}: facts", list(record_facts(state, record)), [fact])
 
 
 def test_calls_refused(checks: Checks, options: Options) -> None:
@@ -179,8 +197,8 @@ def test_rules_full(checks: Checks, options: Options) -> None:
 
 
 def test_rules_accepted(checks: Checks, options: Options) -> None:
-    accepted = [deny(1, []), limit(16, [2]), limit(50, []), combination(1, 16, 1, 63)]
-    accepted += [deny(1, [25], 1, 0), deny(1, [25], 1, 7), deny(1, [25], 1, 24), deny(1, [25])]
+    accepted = [forbid(1, []), confine(16, [2]), confine(50, []), separate(1, 16, 1, 63)]
+    accepted += [forbid(1, [25], 1, substitute) for substitute in (0, 7, 24)] + [forbid(1, [25])]
     answers = Tracker()
     answers.state = allows(SETUP).state
     lines = [str(answers.answer_record(encode(rule))[0]) for rule in accepted]
@@ -199,25 +217,25 @@ RANGES = {
     "-": range(0, 1),
 }
 LAYOUTS = {
-    START: "P---",
-    OPEN: "PND-",
-    CREATE: "PNDF",
-    PIPE: "PDDF",
-    DEVICE: "PDV-",
-    DUP: "PDD-",
-    CLOSE: "PD--",
-    READ: "PD--",
-    WRITE: "PD--",
-    TRUNCATE: "PD--",
-    MAP_READ: "PD--",
-    MAP_BOTH: "PD--",
-    UNMAP: "PC--",
-    UNLINK: "PN--",
-    RENAME: "PNN-",
-    LINK: "PNN-",
-    FORK: "PP--",
-    EXIT: "P---",
-    LABEL: "-CI-",
+    Kind.START: "P---",
+    Kind.OPEN: "PND-",
+    Kind.CREATE: "PNDF",
+    Kind.PIPE: "PDDF",
+    Kind.DEVICE: "PDV-",
+    Kind.DUP: "PDD-",
+    Kind.CLOSE: "PD--",
+    Kind.READ: "PD--",
+    Kind.WRITE: "PD--",
+    Kind.TRUNCATE: "PD--",
+    Kind.MAP_READ: "PD--",
+    Kind.MAP_BOTH: "PD--",
+    Kind.UNMAP: "PC--",
+    Kind.UNLINK: "PN--",
+    Kind.RENAME: "PNN-",
+    Kind.LINK: "PNN-",
+    Kind.FORK: "PP--",
+    Kind.EXIT: "P---",
+    Kind.LABEL: "-CI-",
 }
 
 
@@ -229,7 +247,7 @@ def test_call_ranges(checks: Checks, options: Options) -> None:
             accepted = []
             for value in range(256):
                 call = Call(kind, *low[:index], value, *low[index + 1 :])
-                if 5 not in call_refusals(state, call):
+                if Refusal.OUT_OF_RANGE not in refusals(record_facts(state, call)):
                     accepted.append(value)
             checks.equal(f"kind {kind}, field {index}: range", accepted, list(RANGES[letter]))
 
@@ -238,21 +256,23 @@ def test_rule_ranges(checks: Checks, options: Options) -> None:
     state = allows(SETUP).state
     diverted = [*range(0, 8), *range(24, 64)]
     tables = [
-        ("item", lambda value: deny(value, []), list(range(64))),
-        ("first item", lambda value: combination(value, 63), list(range(64))),
-        ("second item", lambda value: combination(0, value), list(range(64))),
-        ("substitute of 0", lambda value: limit(1, CONTAINERS, 0, value), [0]),
-        ("substitute of 1", lambda value: limit(1, CONTAINERS, 1, value), diverted),
+        ("item", lambda value: forbid(value, []), list(range(64))),
+        ("first item", lambda value: separate(value, 63), list(range(64))),
+        ("second item", lambda value: separate(0, value), list(range(64))),
+        ("substitute of 0", lambda value: confine(1, CONTAINERS, 0, value), [0]),
+        ("substitute of 1", lambda value: confine(1, CONTAINERS, 1, value), diverted),
     ]
     for name, make, expected in tables:
-        accepted = [v for v in range(256) if 5 not in rule_refusals(state, make(v))]
+        facts = {value: record_facts(state, make(value)) for value in range(256)}
+        accepted = [v for v in facts if Refusal.OUT_OF_RANGE not in refusals(facts[v])]
         checks.equal(f"rule {name}: range", accepted, expected)
-    actions = [v for v in range(256) if 4 not in rule_refusals(state, deny(1, [], v))]
+    facts = {action: record_facts(state, forbid(1, [], action)) for action in range(256)}
+    actions = [a for a in facts if Refusal.UNKNOWN_KIND not in refusals(facts[a])]
     checks.equal("rule action: range", actions, [0, 1])
 
 
 def test_framing(checks: Checks, options: Options) -> None:
-    start = encode(Call(START, 0))
+    start = encode(Call(Kind.START, 0))
     long_call = frame_bytes(CALL_TAG, start[3:] + bytes(256))
     cases = [
         ("one byte", b"\x10", "refused 1"),
@@ -269,7 +289,7 @@ def test_framing(checks: Checks, options: Options) -> None:
         ("call, no value", b"\x10\x00\x00", "refused 3"),
         ("call, 4 bytes", frame_bytes(CALL_TAG, start[3:-1]), "refused 3"),
         ("call, 261 bytes", long_call, "refused 3"),
-        ("rule, 4 bytes", frame_bytes(DENY_TAG, bytes(4)), "refused 3"),
+        ("rule, 4 bytes", frame_bytes(FORBID_TAG, bytes(4)), "refused 3"),
         ("whole", start, "allow"),
     ]
     for name, data, expected in cases:
@@ -282,7 +302,7 @@ def test_framing(checks: Checks, options: Options) -> None:
 
 def test_several_logs(checks: Checks, options: Options) -> None:
     tracker = Tracker()
-    start = encode(Call(START, 0))
+    start = encode(Call(Kind.START, 0))
     first = tracker.run_log(start + b"\x10")
     second = tracker.run_log(start)
     lines = [str(answer) for answer in first + second]
@@ -290,15 +310,15 @@ def test_several_logs(checks: Checks, options: Options) -> None:
 
 
 def test_items_query(checks: Checks, options: Options) -> None:
-    tracker = allows(SETUP + [Call(LABEL, 0, 24, 63), Call(LABEL, 0, 24, 0)])
+    tracker = allows(SETUP + [Call(Kind.LABEL, 0, 24, 63), Call(Kind.LABEL, 0, 24, 0)])
     checks.equal("items: bits", tracker.query_items(24), 1 << 63 | 0b111)
     checks.equal("items: none", tracker.query_items(63), 0)
-    checks.equal("items: 64", tracker.query_items(64), refused(5))
-    checks.equal("items: 65,535", tracker.query_items(65535), refused(5))
+    checks.equal("items: 64", tracker.query_items(64), refused(Refusal.OUT_OF_RANGE))
+    checks.equal("items: 65,535", tracker.query_items(65535), refused(Refusal.OUT_OF_RANGE))
 
 
 def test_holders_query(checks: Checks, options: Options) -> None:
-    tracker = allows(SETUP + [Call(READ, 0, 0)])
+    tracker = allows(SETUP + [Call(Kind.READ, 0, 0)])
     lent = [700, 701, 702, 703]
     checks.equal("holders: count", tracker.query_holders(1, lent), 2)
     checks.equal("holders: slice", (sorted(lent[:2]), lent[2:]), ([8, 24], [702, 703]))
@@ -306,10 +326,11 @@ def test_holders_query(checks: Checks, options: Options) -> None:
     checks.equal("holders: exact slice", tracker.query_holders(1, exact), 2)
     checks.equal("holders: exact slice filled", sorted(exact), [8, 24])
     short = [77]
-    checks.equal("holders: short", tracker.query_holders(1, short), refused(13))
+    checks.equal("holders: short", tracker.query_holders(1, short), refused(Refusal.SLICE_SHORT))
     checks.equal("holders: short slice kept", short, [77])
-    checks.equal("holders: 5 before 13", tracker.query_holders(64, []), refused(5))
+    none = tracker.query_holders(64, [])
+    checks.equal("holders: 5 before 13", none, refused(Refusal.OUT_OF_RANGE))
     kept = list(lent)
-    checks.equal("holders: 64", tracker.query_holders(64, lent), refused(5))
+    checks.equal("holders: 64", tracker.query_holders(64, lent), refused(Refusal.OUT_OF_RANGE))
     checks.equal("holders: slice kept", lent, kept)
     checks.equal("holders: none in no slice", tracker.query_holders(63, []), 0)

@@ -5,60 +5,13 @@ new State in its place, so a caller may keep an earlier one.
 """
 
 from dataclasses import dataclass, field
-from typing import Callable, Dict, FrozenSet, List, NamedTuple, Optional, Set, Tuple, Union
+from typing import Callable, Collection, Dict, FrozenSet, Iterable, Iterator, List, NamedTuple
+from typing import Optional, Set, Tuple, Union
 
-from limits import (
-    ACTIONS,
-    BROKEN_ALREADY,
-    CALL_TAG,
-    CLOSE,
-    COMBINATION_TAG,
-    CONTAINERS,
-    CREATE,
-    CUT_SHORT,
-    DEAD_PROCESS,
-    DENY_TAG,
-    DESCRIPTORS,
-    DEVICE,
-    DEVICES,
-    DIVERT_ACTION,
-    DUP,
-    EXIT,
-    FILES,
-    FORK,
-    ITEMS,
-    KINDS,
-    LABEL,
-    LINK,
-    MAP_BOTH,
-    MAP_READ,
-    MISSING,
-    NAMES,
-    NO_FILE,
-    OPEN,
-    OUT_OF_RANGE,
-    PIPE,
-    PROCESSES,
-    READ,
-    REFUSAL_ORDER,
-    RENAME,
-    RULE_LIMIT,
-    RULES_FULL,
-    SAME_TWICE,
-    SLICE_SHORT,
-    START,
-    TAKEN,
-    TRUNCATE,
-    UNKNOWN_KIND,
-    UNKNOWN_TAG,
-    UNLINK,
-    UNMAP,
-    VALUE_LENGTHS,
-    WRITE,
-    WRONG_LENGTH,
-    process_container,
-)
-from records import Call, Frame, Rule, decode_call, decode_rule, read_frame
+from model.limits import ACTIONS, CONTAINERS, DESCRIPTORS, DEVICES, DIVERT_ACTION, FILES, FORBID_TAG
+from model.limits import ITEMS, KINDS, NAMES, PROCESSES, RULE_LIMIT, SEPARATE_TAG, VALUE_LENGTHS
+from model.limits import Kind, Refusal, process_container
+from model.records import CALL_FIELDS, RULE_ITEMS, Call, Frame, Rule, decode, read_frame
 
 NO_ITEMS: FrozenSet[int] = frozenset()
 
@@ -76,9 +29,9 @@ class Answer(NamedTuple):
 ALLOW = Answer("allow")
 
 
-def refused(number: int) -> Answer:
+def refused(refusal: Refusal) -> Answer:
     """The answer of a refusal."""
-    return Answer("refused", (number,))
+    return Answer("refused", (refusal,))
 
 
 @dataclass
@@ -268,25 +221,25 @@ def _label(state: State, call: Call) -> None:
 
 
 EFFECTS: Dict[int, Callable[[State, Call], None]] = {
-    START: _start,
-    OPEN: _open,
-    CREATE: _create,
-    PIPE: _pipe,
-    DEVICE: _device,
-    DUP: _dup,
-    CLOSE: _close,
-    READ: _read,
-    WRITE: _write,
-    TRUNCATE: _truncate,
-    MAP_READ: _map_read,
-    MAP_BOTH: _map_both,
-    UNMAP: _unmap,
-    UNLINK: _unlink,
-    RENAME: _rename,
-    LINK: _link,
-    FORK: _fork,
-    EXIT: _exit,
-    LABEL: _label,
+    Kind.START: _start,
+    Kind.OPEN: _open,
+    Kind.CREATE: _create,
+    Kind.PIPE: _pipe,
+    Kind.DEVICE: _device,
+    Kind.DUP: _dup,
+    Kind.CLOSE: _close,
+    Kind.READ: _read,
+    Kind.WRITE: _write,
+    Kind.TRUNCATE: _truncate,
+    Kind.MAP_READ: _map_read,
+    Kind.MAP_BOTH: _map_both,
+    Kind.UNMAP: _unmap,
+    Kind.UNLINK: _unlink,
+    Kind.RENAME: _rename,
+    Kind.LINK: _link,
+    Kind.FORK: _fork,
+    Kind.EXIT: _exit,
+    Kind.LABEL: _label,
 }
 
 
@@ -302,83 +255,126 @@ def work_out(state: State, call: Call) -> State:
 
 UNUSED = range(0, 1)
 FIELD_RANGES: Dict[int, Tuple[range, range, range, range]] = {
-    START: (PROCESSES, UNUSED, UNUSED, UNUSED),
-    OPEN: (PROCESSES, NAMES, DESCRIPTORS, UNUSED),
-    CREATE: (PROCESSES, NAMES, DESCRIPTORS, FILES),
-    PIPE: (PROCESSES, DESCRIPTORS, DESCRIPTORS, FILES),
-    DEVICE: (PROCESSES, DESCRIPTORS, DEVICES, UNUSED),
-    DUP: (PROCESSES, DESCRIPTORS, DESCRIPTORS, UNUSED),
-    CLOSE: (PROCESSES, DESCRIPTORS, UNUSED, UNUSED),
-    READ: (PROCESSES, DESCRIPTORS, UNUSED, UNUSED),
-    WRITE: (PROCESSES, DESCRIPTORS, UNUSED, UNUSED),
-    TRUNCATE: (PROCESSES, DESCRIPTORS, UNUSED, UNUSED),
-    MAP_READ: (PROCESSES, DESCRIPTORS, UNUSED, UNUSED),
-    MAP_BOTH: (PROCESSES, DESCRIPTORS, UNUSED, UNUSED),
-    UNMAP: (PROCESSES, CONTAINERS, UNUSED, UNUSED),
-    UNLINK: (PROCESSES, NAMES, UNUSED, UNUSED),
-    RENAME: (PROCESSES, NAMES, NAMES, UNUSED),
-    LINK: (PROCESSES, NAMES, NAMES, UNUSED),
-    FORK: (PROCESSES, PROCESSES, UNUSED, UNUSED),
-    EXIT: (PROCESSES, UNUSED, UNUSED, UNUSED),
-    LABEL: (UNUSED, CONTAINERS, ITEMS, UNUSED),
+    Kind.START: (PROCESSES, UNUSED, UNUSED, UNUSED),
+    Kind.OPEN: (PROCESSES, NAMES, DESCRIPTORS, UNUSED),
+    Kind.CREATE: (PROCESSES, NAMES, DESCRIPTORS, FILES),
+    Kind.PIPE: (PROCESSES, DESCRIPTORS, DESCRIPTORS, FILES),
+    Kind.DEVICE: (PROCESSES, DESCRIPTORS, DEVICES, UNUSED),
+    Kind.DUP: (PROCESSES, DESCRIPTORS, DESCRIPTORS, UNUSED),
+    Kind.CLOSE: (PROCESSES, DESCRIPTORS, UNUSED, UNUSED),
+    Kind.READ: (PROCESSES, DESCRIPTORS, UNUSED, UNUSED),
+    Kind.WRITE: (PROCESSES, DESCRIPTORS, UNUSED, UNUSED),
+    Kind.TRUNCATE: (PROCESSES, DESCRIPTORS, UNUSED, UNUSED),
+    Kind.MAP_READ: (PROCESSES, DESCRIPTORS, UNUSED, UNUSED),
+    Kind.MAP_BOTH: (PROCESSES, DESCRIPTORS, UNUSED, UNUSED),
+    Kind.UNMAP: (PROCESSES, CONTAINERS, UNUSED, UNUSED),
+    Kind.UNLINK: (PROCESSES, NAMES, UNUSED, UNUSED),
+    Kind.RENAME: (PROCESSES, NAMES, NAMES, UNUSED),
+    Kind.LINK: (PROCESSES, NAMES, NAMES, UNUSED),
+    Kind.FORK: (PROCESSES, PROCESSES, UNUSED, UNUSED),
+    Kind.EXIT: (PROCESSES, UNUSED, UNUSED, UNUSED),
+    Kind.LABEL: (UNUSED, CONTAINERS, ITEMS, UNUSED),
 }
 
-# Row 7, taken: the fields that must name something free.
-NEW_PROCESS = {START: "process", FORK: "a"}
-NEW_DESCRIPTORS = {OPEN: "b", CREATE: "b", PIPE: "ab", DEVICE: "a", DUP: "b"}
-NEW_NAME = {CREATE: "a", LINK: "b"}
-NEW_CONTAINER = {CREATE: "c", PIPE: "c"}
+# What a field of a call names.
+PROCESS = "process"
+DESCRIPTOR = "descriptor"
+NAME = "name"
+CONTAINER = "container"
+LINK = "link"  # of the caller with a container
 
-# Row 8, missing: the kinds whose field a must name something present.
-NEEDS_DESCRIPTOR = (DUP, CLOSE, READ, WRITE, TRUNCATE, MAP_READ, MAP_BOTH)
-NEEDS_NAME = (OPEN, UNLINK, RENAME, LINK)
+# Row 7, taken: the fields that must name something free.
+NEW_THINGS: Dict[int, Dict[str, str]] = {
+    Kind.START: {"process": PROCESS},
+    Kind.OPEN: {"b": DESCRIPTOR},
+    Kind.CREATE: {"b": DESCRIPTOR, "a": NAME, "c": CONTAINER},
+    Kind.PIPE: {"a": DESCRIPTOR, "b": DESCRIPTOR, "c": CONTAINER},
+    Kind.DEVICE: {"a": DESCRIPTOR},
+    Kind.DUP: {"b": DESCRIPTOR},
+    Kind.LINK: {"b": NAME},
+    Kind.FORK: {"a": PROCESS},
+}
+
+# Row 8, missing: the kinds whose field a must name something present, and what it names.
+NEEDED_THINGS: Dict[int, str] = {
+    Kind.OPEN: NAME,
+    Kind.DUP: DESCRIPTOR,
+    Kind.CLOSE: DESCRIPTOR,
+    Kind.READ: DESCRIPTOR,
+    Kind.WRITE: DESCRIPTOR,
+    Kind.TRUNCATE: DESCRIPTOR,
+    Kind.MAP_READ: DESCRIPTOR,
+    Kind.MAP_BOTH: DESCRIPTOR,
+    Kind.UNMAP: LINK,
+    Kind.UNLINK: NAME,
+    Kind.RENAME: NAME,
+    Kind.LINK: NAME,
+    Kind.LABEL: CONTAINER,
+}
 
 # Row 6, dead process: the kinds without a calling process.
-NEEDS_NO_CALLER = (START, LABEL)
+NEEDS_NO_CALLER = (Kind.START, Kind.LABEL)
 
 
-def is_taken(state: State, call: Call) -> bool:
-    """Whether row 7 applies."""
-    kind = call.kind
-    if kind in NEW_PROCESS and getattr(call, NEW_PROCESS[kind]) in state.live:
-        return True
-    for name in NEW_DESCRIPTORS.get(kind, ""):
-        if (call.process, getattr(call, name)) in state.descriptors:
-            return True
-    if kind in NEW_NAME and getattr(call, NEW_NAME[kind]) in state.names:
-        return True
-    return kind in NEW_CONTAINER and getattr(call, NEW_CONTAINER[kind]) in state.used()
+class Fact(NamedTuple):
+    """A test that a record fails."""
+
+    refusal: Refusal
+    field: str = ""  # that is at fault; empty if no single one is
+    thing: str = ""  # what it names, if that is dead, taken, missing or no file
+    allowed: Collection[int] = ()  # the values that it may have, whatever the state is
+    containers: Tuple[int, ...] = ()  # where the thing leads, or those that break the rule
 
 
-def is_missing(state: State, call: Call) -> bool:
-    """Whether row 8 applies."""
-    if call.kind in NEEDS_DESCRIPTOR:
-        return (call.process, call.a) not in state.descriptors
-    if call.kind in NEEDS_NAME:
-        return call.a not in state.names
-    if call.kind == UNMAP:
-        return not {(call.a, call.caller), (call.caller, call.a)} & state.links
-    return call.kind == LABEL and call.a not in state.used()
+def is_there(state: State, call: Call, thing: str, number: int) -> bool:
+    """Whether a thing is live, open, bound, in use or linked with the caller."""
+    if thing == PROCESS:
+        return number in state.live
+    if thing == LINK:
+        return bool({(number, call.caller), (call.caller, number)} & state.links)
+    if thing == CONTAINER:
+        return number in state.used()
+    return bool(leads(state, call, thing, number))
 
 
-def call_refusals(state: State, call: Call) -> Set[int]:
-    """The refusals that apply to a call."""
+def leads(state: State, call: Call, thing: str, number: int) -> Tuple[int, ...]:
+    """The container that an open descriptor of the caller or a bound name leads to."""
+    target = None
+    if thing == DESCRIPTOR:
+        target = state.descriptors.get((call.process, number))
+    if thing == NAME:
+        target = state.names.get(number)
+    return () if target is None else (target,)
+
+
+def call_facts(state: State, call: Call) -> Iterator[Fact]:
+    """The tests that a call fails."""
     if call.kind not in KINDS:
-        return {UNKNOWN_KIND}
-    found = set()
-    if any(value not in allowed for value, allowed in zip(call[1:], FIELD_RANGES[call.kind])):
-        found.add(OUT_OF_RANGE)
+        yield Fact(Refusal.UNKNOWN_KIND, "kind", allowed=KINDS)
+        return
+    for field, allowed in zip(CALL_FIELDS, FIELD_RANGES[call.kind]):
+        if getattr(call, field) not in allowed:
+            yield Fact(Refusal.OUT_OF_RANGE, field, allowed=allowed)
+    yield from state_facts(state, call)
+    if call.kind == Kind.PIPE and call.a == call.b:
+        yield Fact(Refusal.SAME_TWICE, "b", DESCRIPTOR)
+    target = leads(state, call, DESCRIPTOR, call.a)
+    if call.kind == Kind.TRUNCATE and target and target[0] in DEVICES:
+        yield Fact(Refusal.NO_FILE, "a", DESCRIPTOR, containers=target)
+
+
+def state_facts(state: State, call: Call) -> Iterator[Fact]:
+    """The tests of rows 6 to 8 that a call fails."""
     if call.kind not in NEEDS_NO_CALLER and call.process not in state.live:
-        found.add(DEAD_PROCESS)
-    if is_taken(state, call):
-        found.add(TAKEN)
-    if is_missing(state, call):
-        found.add(MISSING)
-    if call.kind == PIPE and call.a == call.b:
-        found.add(SAME_TWICE)
-    if call.kind == TRUNCATE and state.descriptors.get((call.process, call.a)) in DEVICES:
-        found.add(NO_FILE)
-    return found
+        yield Fact(Refusal.DEAD_PROCESS, "process", PROCESS)
+    for field, thing in NEW_THINGS.get(call.kind, {}).items():
+        number = getattr(call, field)
+        if is_there(state, call, thing, number):
+            target = leads(state, call, thing, number)
+            yield Fact(Refusal.TAKEN, field, thing, containers=target)
+    needed = NEEDED_THINGS.get(call.kind)
+    if needed and not is_there(state, call, needed, call.a):
+        yield Fact(Refusal.MISSING, "a", needed)
 
 
 def substitutes(action: int) -> Set[int]:
@@ -386,57 +382,78 @@ def substitutes(action: int) -> Set[int]:
     return {*DEVICES, *FILES} if action == DIVERT_ACTION else {0}
 
 
-def rule_refusals(state: State, rule: Rule) -> Set[int]:
-    """The refusals that apply to a rule."""
-    found = set()
+def rule_facts(state: State, rule: Rule) -> Iterator[Fact]:
+    """The tests that a rule fails."""
     if rule.action not in ACTIONS:
-        found.add(UNKNOWN_KIND)
-    if rule.substitute not in substitutes(rule.action) or not set(rule.items) <= set(ITEMS):
-        found.add(OUT_OF_RANGE)
-    if rule.tag == COMBINATION_TAG and rule.items[0] == rule.items[1]:
-        found.add(SAME_TWICE)
+        yield Fact(Refusal.UNKNOWN_KIND, "action", allowed=ACTIONS)
+    for field, item in zip(RULE_ITEMS, rule.items):
+        if item not in ITEMS:
+            yield Fact(Refusal.OUT_OF_RANGE, field, allowed=ITEMS)
+    allowed = substitutes(rule.action)
+    if rule.substitute not in allowed:
+        yield Fact(Refusal.OUT_OF_RANGE, "substitute", allowed=allowed)
+    if rule.tag == SEPARATE_TAG and rule.items[0] == rule.items[1]:
+        yield Fact(Refusal.SAME_TWICE, "second")
     if len(state.rules) >= RULE_LIMIT:
-        found.add(RULES_FULL)
-    if is_broken(state, rule):
-        found.add(BROKEN_ALREADY)
-    return found
+        yield Fact(Refusal.RULES_FULL)
+    places = broken_places(state, rule)
+    if places:
+        yield Fact(Refusal.BROKEN_ALREADY, containers=tuple(places))
 
 
-def frame_refusals(state: State, frame: Optional[Frame]) -> Set[int]:
-    """The refusals that apply to a measured record."""
+def record_facts(state: State, record: Union[Call, Rule]) -> Iterator[Fact]:
+    """The tests that a record of a known tag and the right length fails."""
+    return call_facts(state, record) if isinstance(record, Call) else rule_facts(state, record)
+
+
+def frame_facts(state: State, frame: Optional[Frame]) -> Iterator[Fact]:
+    """The tests that a measured record fails."""
     if frame is None:
-        return {CUT_SHORT}
-    if frame.tag not in VALUE_LENGTHS:
-        return {UNKNOWN_TAG}
-    if len(frame.value) != VALUE_LENGTHS[frame.tag]:
-        return {WRONG_LENGTH}
-    if frame.tag == CALL_TAG:
-        return call_refusals(state, decode_call(frame.value))
-    return rule_refusals(state, decode_rule(frame.tag, frame.value))
+        yield Fact(Refusal.CUT_SHORT)
+    elif frame.tag not in VALUE_LENGTHS:
+        yield Fact(Refusal.UNKNOWN_TAG)
+    elif len(frame.value) != VALUE_LENGTHS[frame.tag]:
+        yield Fact(Refusal.WRONG_LENGTH)
+    else:
+        yield from record_facts(state, decode(frame))
 
 
-def first_refusal(numbers: Set[int]) -> int:
+def refusals(facts: Iterable[Fact]) -> Set[Refusal]:
+    """The refusals that apply."""
+    return {fact.refusal for fact in facts}
+
+
+def frame_refusals(state: State, frame: Optional[Frame]) -> Set[Refusal]:
+    """The refusals that apply to a measured record."""
+    return refusals(frame_facts(state, frame))
+
+
+def first_refusal(numbers: Set[Refusal]) -> Refusal:
     """The one number that is answered when several apply."""
-    return next(number for number in REFUSAL_ORDER if number in numbers)
+    return next(number for number in Refusal if number in numbers)
 
 
 # Rules and verdicts: document 01, What a record gets.
 
 
+def broken_places(state: State, rule: Rule) -> List[int]:
+    """The containers that break the rule, in rising order."""
+    if rule.tag == SEPARATE_TAG:
+        return [c for c in CONTAINERS if state.items[c].issuperset(rule.items)]
+    item = rule.items[0]
+    return [c for c in state.holders(item) if forbids(rule, c, item)]
+
+
 def is_broken(state: State, rule: Rule) -> bool:
     """Whether the state breaks the rule."""
-    if rule.tag == COMBINATION_TAG:
-        both = frozenset(rule.items)
-        return any(both <= held for held in state.items.values())
-    item = rule.items[0]
-    return any(forbids(rule, container, item) for container in state.holders(item))
+    return bool(broken_places(state, rule))
 
 
 def forbids(rule: Rule, container: int, item: int) -> bool:
     """Whether the rule forbids the container the item, that item alone."""
-    if rule.tag == COMBINATION_TAG or rule.items[0] != item:
+    if rule.tag == SEPARATE_TAG or rule.items[0] != item:
         return False
-    return (container in rule.containers) == (rule.tag == DENY_TAG)
+    return (container in rule.containers) == (rule.tag == FORBID_TAG)
 
 
 def broken_rules(state: State) -> List[int]:
@@ -460,7 +477,7 @@ def divert_obstacle(state: State, call: Call, rule: Rule) -> Optional[str]:
     """Why a call that breaks this rule cannot be diverted; None if it can."""
     if rule.action != DIVERT_ACTION:
         return "action inhibits"
-    if call.kind != WRITE:
+    if call.kind != Kind.WRITE:
         return "not a write"
     if rule.substitute not in state.used():
         return "substitute not in use"
@@ -500,13 +517,12 @@ class Tracker:
         Also gives the position of the next record, or None when reading ends.
         """
         frame = read_frame(log, position)
-        refusals = frame_refusals(self.state, frame)
-        if frame is None or refusals:
-            return refused(first_refusal(refusals)), frame.end if frame else None
-        if frame.tag == CALL_TAG:
-            answer, self.state = judge(self.state, decode_call(frame.value))
-        else:
-            answer, self.state = load_rule(self.state, decode_rule(frame.tag, frame.value))
+        applying = frame_refusals(self.state, frame)
+        if frame is None or applying:
+            return refused(first_refusal(applying)), frame.end if frame else None
+        record = decode(frame)
+        answer_to = judge if isinstance(record, Call) else load_rule
+        answer, self.state = answer_to(self.state, record)
         return answer, frame.end
 
     def run_log(self, log: bytes) -> List[Answer]:
@@ -521,15 +537,15 @@ class Tracker:
     def query_items(self, container: int) -> Union[int, Answer]:
         """The items of a container as a 64-bit set, or a refusal."""
         if container not in CONTAINERS:
-            return refused(OUT_OF_RANGE)
+            return refused(Refusal.OUT_OF_RANGE)
         return sum(1 << item for item in self.state.items[container])
 
     def query_holders(self, item: int, lent: List[int]) -> Union[int, Answer]:
         """Put an item's holders at the front of a lent list; answer how many."""
         if item not in ITEMS:
-            return refused(OUT_OF_RANGE)
+            return refused(Refusal.OUT_OF_RANGE)
         holders = self.state.holders(item)
         if len(lent) < len(holders):
-            return refused(SLICE_SHORT)
+            return refused(Refusal.SLICE_SHORT)
         lent[: len(holders)] = holders
         return len(holders)

@@ -9,11 +9,10 @@ from functools import lru_cache
 from typing import Any, Dict, List, NamedTuple, Tuple
 from xml.sax.saxutils import escape
 
-import modelpath  # noqa: F401  (before the modules of the model)
-from limits import DEVICES, ITEMS, PROCESS_CONTAINERS
-from logtext import set_text
-from views import View
-from words import Words, short
+from model.limits import DEVICES, ITEMS, PROCESS_CONTAINERS
+from model.logtext import set_text
+from tools.views import View
+from tools.words import Words, short
 
 # Sizes.
 WIDTH = 236

@@ -2,11 +2,10 @@
 
 from typing import Dict, FrozenSet, List, NamedTuple, Optional, Tuple, TypeVar
 
-import modelpath  # noqa: F401  (before the modules of the model)
-from limits import CONTAINERS, FILES
-from provenance import Link
-from records import Rule
-from tracker import State
+from model.limits import CONTAINERS, FILES
+from model.records import Rule
+from model.tracker import State
+from tools.provenance import Link
 
 Key = TypeVar("Key")
 Moves = Dict[Key, Tuple[Optional[int], Optional[int]]]  # where an entry led before, and leads now

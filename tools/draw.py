@@ -3,31 +3,17 @@
 import textwrap
 from typing import Iterable, List, Tuple
 
-import modelpath  # noqa: F401  (before the modules of the model)
-from boxes import (
-    CHARACTER,
-    CHIP_HEIGHT,
-    COLOURS,
-    DONE,
-    GAP,
-    GONE,
-    LINE,
-    NEVER,
-    NEW,
-    STOPPED,
-    STYLE,
-    TEXT_SIZE,
-    TITLE_SIZE,
-)
-from boxes import Content, Token, chip, element, number, path, token_elements
-from explain import explain
-from names import Own
-from phrases import action_text, rule_text
-from provenance import Step
-from scene import HEAD, MARGIN, Contents, Painter, Plan, Scene, contents_of, head_element
-from scene import make_plan, needed, pair_of
-from views import View, view_at
-from words import Words
+from tools.boxes import CHARACTER, CHIP_HEIGHT, COLOURS, DONE, GAP, GONE, LINE, NEVER, NEW, STOPPED
+from tools.boxes import STYLE, TEXT_SIZE, TITLE_SIZE, Content, Token, chip, element, number, path
+from tools.boxes import token_elements
+from tools.explain import explain
+from tools.names import Own
+from tools.phrases import action_text, rule_text
+from tools.provenance import Step
+from tools.scene import HEAD, MARGIN, Contents, Painter, Plan, Scene, contents_of, head_element
+from tools.scene import make_plan, needed, pair_of
+from tools.views import View, view_at
+from tools.words import Words
 
 NARROWEST = 760.0
 HEAD_SIZE = 15

@@ -2,20 +2,20 @@
 
 from typing import Dict, List, NamedTuple, Optional, Tuple
 
-import modelpath  # noqa: F401  (before the modules of the model)
-from changes import Changes, changes_between
-from limits import BROKEN_ALREADY, MAP_BOTH, MAP_READ, READ, RULE_LIMIT, TRUNCATE, WRITE
-from logtext import REFUSAL_WORDS, record_text
-from names import NO_OWN, Own
-from phrases import OBSTACLES, answer_meaning, hop_text, rule_text, sentence
-from provenance import DONE, Moment, Origin, Step, chain, gifts_of
-from reasons import Case, Refusal, broken_places, failed_text, refusal_of
-from records import Call, Rule, encode
-from tracker import ALLOW, Answer, broken_rules, divert, divert_obstacle, judge, load_rule
-from words import Words, joined, numbers_text, plural, short
+from model.limits import RULE_LIMIT, Kind, Refusal
+from model.logtext import REFUSAL_WORDS, record_text
+from model.records import Call, Rule, encode
+from model.tracker import ALLOW, Answer, broken_places, broken_rules, divert, divert_obstacle, judge
+from model.tracker import load_rule
+from tools.changes import Changes, changes_between
+from tools.names import NO_OWN, Own
+from tools.phrases import OBSTACLES, answer_meaning, hop_text, rule_text, sentence
+from tools.provenance import DONE, Moment, Origin, Step, chain, gifts_of
+from tools.reasons import Case, Reason, failed_text, reason_of
+from tools.words import Words, joined, numbers_text, plural, short
 
 SHOWN_BYTES = 16  # of a raw value
-GIVING = (READ, WRITE, MAP_READ, MAP_BOTH)
+GIVING = (Kind.READ, Kind.WRITE, Kind.MAP_READ, Kind.MAP_BOTH)
 OFFERED = ("allow", "rule")  # answers to a record that does what it says
 
 Line = Tuple[int, str]  # how deep it stands, and the text
@@ -118,11 +118,11 @@ def obstacle_lines(words: Words, step: Step) -> List[Line]:
 # Refusals.
 
 
-def mended_lines(step: Step, refusal: Refusal) -> List[Line]:
+def mended_lines(step: Step, reason: Reason) -> List[Line]:
     """A record that does what was meant, with what it would get; none if it would be stopped."""
-    while refusal.then is not None:
-        refusal = refusal.then
-    record = refusal.mended
+    while reason.then is not None:
+        reason = reason.then
+    record = reason.mended
     if record is None:
         return []
     state = step.before.state
@@ -136,16 +136,16 @@ def refusal_lines(words: Words, step: Step) -> List[Line]:
     """Which tests failed, and what would have passed."""
     number = step.answer.numbers[0]
     case = Case(words, step.before.state, step.data, step.record)
-    first = refusal = refusal_of(case, number)
-    lines = [(0, text) for text in dict.fromkeys(map(failed_text, refusal.failed))]
-    while refusal.then is not None:
-        refusal = refusal.then
-        failed = "; ".join(map(failed_text, refusal.failed))
-        reason = REFUSAL_WORDS[refusal.number]
-        lines.append((0, f"with that mended, refused with {refusal.number} ({reason}): {failed}"))
-    if number == BROKEN_ALREADY:
-        places = broken_places(step.before.state, step.record)
-        lines += place_lines(words, step.before, step.record, places[0], step.number)
+    first = reason = reason_of(case, number)
+    lines = [(0, text) for text in dict.fromkeys(map(failed_text, reason.failed))]
+    while reason.then is not None:
+        reason = reason.then
+        failed = "; ".join(map(failed_text, reason.failed))
+        word = REFUSAL_WORDS[reason.number]
+        lines.append((0, f"with that mended, refused with {reason.number} ({word}): {failed}"))
+    if number == Refusal.BROKEN_ALREADY:
+        place = first.facts[0].containers[0]
+        lines += place_lines(words, step.before, step.record, place, step.number)
     return lines + mended_lines(step, first)
 
 
@@ -215,7 +215,7 @@ def change_lines(words: Words, step: Step) -> List[str]:
 def idle_text(words: Words, step: Step) -> str:
     """Why a call that is done changes nothing."""
     state, call = step.before.state, step.record
-    if call.kind == TRUNCATE:
+    if call.kind == Kind.TRUNCATE:
         file = state.descriptors[call.process, call.a]
         link = min((link for link in state.links if link[1] == file), default=None)
         if link is None:

@@ -3,10 +3,9 @@
 import os
 from typing import Dict, Tuple
 
-import modelpath  # noqa: F401  (before the modules of the model)
-from limits import CONTAINERS, ITEMS, NAMES, PROCESSES, process_container
-from logfiles import STANDARD, BadInput, read_bytes, shown_name
-from logtext import CONTAINER_NAMES, NO_NAMES, BadLine, Unfit, read_number, text_lines
+from model.limits import CONTAINERS, ITEMS, NAMES, PROCESSES, process_container
+from model.logfiles import STANDARD, BadInput, read_bytes, shown_name
+from model.logtext import CONTAINER_NAMES, NO_NAMES, BadLine, Unfit, read_number, text_lines
 
 LONGEST = 60  # characters of an own name
 ENDING = ".names.txt"

@@ -10,15 +10,14 @@ from pathlib import Path
 from typing import Any, Dict, List
 from xml.sax.saxutils import escape
 
-import modelpath  # noqa: F401  (before the modules of the model)
-from boxes import COLOURS, STYLE
-from draw import ANSWER_COLOURS, headings_text, printable, rule_lines
-from explain import Explanation, explain
-from names import Own
-from provenance import Step
-from scene import Painter, Scene, all_contents, make_plan, needed, pair_of
-from views import View, views_of
-from words import Words
+from tools.boxes import COLOURS, STYLE
+from tools.draw import ANSWER_COLOURS, headings_text, printable, rule_lines
+from tools.explain import Explanation, explain
+from tools.names import Own
+from tools.provenance import Step
+from tools.scene import Painter, Scene, all_contents, make_plan, needed, pair_of
+from tools.views import View, views_of
+from tools.words import Words
 
 TEMPLATE = Path(__file__).resolve().parent / "page.html"
 

@@ -6,42 +6,13 @@ sort of rule is a line in RULES, a new answer one in ANSWERS.
 
 from typing import Any, Dict
 
-import modelpath  # noqa: F401  (before the modules of the model)
-from limits import (
-    CALL_TAG,
-    CLOSE,
-    COMBINATION_TAG,
-    CREATE,
-    DENY_TAG,
-    DEVICE,
-    DEVICES,
-    DIVERT_ACTION,
-    DUP,
-    EXIT,
-    FORK,
-    INHIBIT_ACTION,
-    KINDS,
-    LABEL,
-    LIMIT_TAG,
-    LINK,
-    MAP_BOTH,
-    MAP_READ,
-    OPEN,
-    PIPE,
-    PROCESS_CONTAINERS,
-    READ,
-    RENAME,
-    START,
-    TRUNCATE,
-    UNLINK,
-    UNMAP,
-    WRITE,
-)
-from logtext import FORMS
-from provenance import Origin
-from records import Call, Rule
-from tracker import Answer, State
-from words import Words, set_words
+from model.limits import CALL_TAG, CONFINE_TAG, DEVICES, DIVERT_ACTION, FORBID_TAG, INHIBIT_ACTION
+from model.limits import KINDS, PROCESS_CONTAINERS, SEPARATE_TAG, Kind
+from model.logtext import FORMS
+from model.records import Call, Rule
+from model.tracker import Answer, State
+from tools.provenance import Origin
+from tools.words import Words, set_words
 
 
 class Verb:
@@ -63,48 +34,49 @@ def verbs(done: bool) -> Dict[str, Verb]:
 
 # A call. {through} is descriptor a and where it leads before the call; {through_on} goes on.
 CALLS: Dict[int, str] = {
-    START: "{process} {do:starts/start}",
-    OPEN: "{process} {do:opens/open} {name_a} as descriptor {b}",
-    CREATE: "{process} {do:creates/create} {name_a} as a new file, container {c}, open as "
+    Kind.START: "{process} {do:starts/start}",
+    Kind.OPEN: "{process} {do:opens/open} {name_a} as descriptor {b}",
+    Kind.CREATE: "{process} {do:creates/create} {name_a} as a new file, container {c}, open as "
     "descriptor {b}",
-    PIPE: "{process} {do:makes/make} a new pipe, container {c}, open as descriptors {a} and {b}",
-    DEVICE: "{process} {do:opens/open} {device_b} as descriptor {a}",
-    DUP: "{process} {do:copies/copy} {through_on} to descriptor {b}",
-    CLOSE: "{process} {do:closes/close} {through}",
-    READ: "{process} {do:reads/read} from {through}",
-    WRITE: "{process} {do:writes/write} to {through}",
-    TRUNCATE: "{process} {do:truncates/truncate} {through}",
-    MAP_READ: "{process} {do:maps/map} {through}, to read",
-    MAP_BOTH: "{process} {do:maps/map} {through}, both ways",
-    UNMAP: "{process} {do:unmaps/unmap} {container_a}",
-    UNLINK: "{process} {do:unlinks/unlink} {name_a}",
-    RENAME: "{process} {do:renames/rename} {name_a} to {name_b}",
-    LINK: "{process} {do:makes/make} {name_b} lead where {name_a} leads",
-    FORK: "{process} {do:forks/fork} {child}",
-    EXIT: "{process} {do:exits/exit}",
-    LABEL: "{item_b} {do:comes/come} in from outside and {also:is/be} given to {container_a}",
+    Kind.PIPE: "{process} {do:makes/make} a new pipe, container {c}, open as descriptors {a} and "
+    "{b}",
+    Kind.DEVICE: "{process} {do:opens/open} {device_b} as descriptor {a}",
+    Kind.DUP: "{process} {do:copies/copy} {through_on} to descriptor {b}",
+    Kind.CLOSE: "{process} {do:closes/close} {through}",
+    Kind.READ: "{process} {do:reads/read} from {through}",
+    Kind.WRITE: "{process} {do:writes/write} to {through}",
+    Kind.TRUNCATE: "{process} {do:truncates/truncate} {through}",
+    Kind.MAP_READ: "{process} {do:maps/map} {through}, to read",
+    Kind.MAP_BOTH: "{process} {do:maps/map} {through}, both ways",
+    Kind.UNMAP: "{process} {do:unmaps/unmap} {container_a}",
+    Kind.UNLINK: "{process} {do:unlinks/unlink} {name_a}",
+    Kind.RENAME: "{process} {do:renames/rename} {name_a} to {name_b}",
+    Kind.LINK: "{process} {do:makes/make} {name_b} lead where {name_a} leads",
+    Kind.FORK: "{process} {do:forks/fork} {child}",
+    Kind.EXIT: "{process} {do:exits/exit}",
+    Kind.LABEL: "{item_b} {do:comes/come} in from outside and {also:is/be} given to {container_a}",
 }
 
 # How an item gets on by a call.
 HOPS: Dict[int, str] = {
-    READ: "{target} {do:reads/read} it from {giver}",
-    WRITE: "{giver} {do:writes/write} it to {target}",
-    MAP_READ: "{target} {do:maps/map} {giver} to read",
-    MAP_BOTH: "{process} {do:maps/map} {mapped} both ways",
-    FORK: "{target} {do:is/be} forked from {giver}",
-    LABEL: "it {do:comes/come} in from outside, by a label of {target}",
+    Kind.READ: "{target} {do:reads/read} it from {giver}",
+    Kind.WRITE: "{giver} {do:writes/write} it to {target}",
+    Kind.MAP_READ: "{target} {do:maps/map} {giver} to read",
+    Kind.MAP_BOTH: "{process} {do:maps/map} {mapped} both ways",
+    Kind.FORK: "{target} {do:is/be} forked from {giver}",
+    Kind.LABEL: "it {do:comes/come} in from outside, by a label of {target}",
 }
 DIVERTED = "{giver} writes it, and rule {rule} diverts the write to {target}"
 
 # A rule, and what becomes of a call that would break it.
 RULES: Dict[int, str] = {
-    DENY_TAG: "{first} may not be in {containers}",
-    COMBINATION_TAG: "no container may hold both {first} and {second}",
-    LIMIT_TAG: "{first} may be in {containers} only",
+    FORBID_TAG: "{first} may not be in {containers}",
+    SEPARATE_TAG: "no container may hold both {first} and {second}",
+    CONFINE_TAG: "{first} may be in {containers} only",
 }
 EMPTY_RULES: Dict[int, str] = {  # with an empty set
-    DENY_TAG: "{first} may be anywhere, for the set is empty",
-    LIMIT_TAG: "{first} may be nowhere, for the set is empty",
+    FORBID_TAG: "{first} may be anywhere, for the set is empty",
+    CONFINE_TAG: "{first} may be nowhere, for the set is empty",
 }
 ACTIONS: Dict[int, str] = {
     INHIBIT_ACTION: "a call that would break it is inhibited",
@@ -167,7 +139,7 @@ def rule_text(words: Words, rule: Rule) -> str:
     return shapes[rule.tag].format(
         first=words.item(first),
         second=words.item(last),
-        containers=set_words(words, rule.containers, "or" if rule.tag == DENY_TAG else "and"),
+        containers=set_words(words, rule.containers, "or" if rule.tag == FORBID_TAG else "and"),
     )
 
 

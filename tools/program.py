@@ -7,12 +7,11 @@ import sys
 from pathlib import Path
 from typing import List, Optional
 
-import modelpath
-from limits import LOG_LIMIT
-from logfiles import Say
-from logtext import counted, split_records
+from model import ROOT
+from model.limits import LOG_LIMIT
+from model.logfiles import Say
+from model.logtext import counted, split_records
 
-ROOT = Path(modelpath.ROOT)
 PROGRAM = ROOT / "target" / "bin" / "runlog"
 BUILD = ["rt", "check", "runlog"]
 SOURCES = ("src", "specs", "proofs")  # of a crate

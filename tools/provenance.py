@@ -7,14 +7,13 @@ a chain that ends at a label and that later records cannot change.
 
 from typing import Any, Dict, Iterator, List, NamedTuple, Optional, Tuple
 
-import modelpath  # noqa: F401  (before the modules of the model)
-from contents import gifts
-from limits import CALL_TAG, CREATE, FORK, PIPE, VALUE_LENGTHS, process_container
-from records import Call, decode_call, decode_rule, read_frame
-from tracker import ALLOW, Answer, State, Tracker, work_out
+from model.contents import gifts
+from model.limits import VALUE_LENGTHS, Kind, process_container
+from model.records import Call, decode, read_frame
+from model.tracker import ALLOW, Answer, State, Tracker, work_out
 
 Link = Tuple[int, int]
-MADE = {CREATE: "file", PIPE: "pipe"}  # what the new container of a call is
+MADE = {Kind.CREATE: "file", Kind.PIPE: "pipe"}  # what the new container of a call is
 DONE = ("allow", "modify")  # answers to a call that changes the state
 BREAKING = ("inhibit", "modify")  # answers that name a rule which would be broken
 
@@ -66,14 +65,12 @@ def record_of(data: bytes) -> Any:
     frame = read_frame(data)
     if frame is None or len(frame.value) != VALUE_LENGTHS.get(frame.tag):
         return None
-    if frame.tag == CALL_TAG:
-        return decode_call(frame.value)
-    return decode_rule(frame.tag, frame.value)
+    return decode(frame)
 
 
 def gifts_of(call: Call, answer: Answer, before: State) -> List[Tuple[Optional[int], int]]:
     """Each giver with the container given to; a fork gives to the child alone."""
-    if call.kind == FORK:
+    if call.kind == Kind.FORK:
         return [(call.caller, process_container(call.a))]
     return gifts(call, answer, before)
 

@@ -1,45 +1,29 @@
 """Why a record is refused, and what would have passed in its place.
 
-TESTS has a function for each refusal. It gives the tests of that row that fail,
-each with the field to change and the values with which it would pass. A record is
-offered in place of a refused one only if it does what that one was meant to do: the
-number of something new may be another one, and so may a field that the call does not
-use. Who makes the call, what it is done to and which item it is about stay.
+The model gives the facts: which tests fail. WORDINGS puts each in words, with the
+field to change and the values with which the test would pass. A record is offered in
+place of a refused one only if it does what that one was meant to do: the number of
+something new may be another one, and so may a field that the call does not use. Who
+makes the call, what it is done to and which item it is about stay.
 """
 
-from typing import Any, Callable, Dict, List, NamedTuple, Optional, Sequence
+from typing import Any, Callable, Dict, List, NamedTuple, Optional, Sequence, Tuple
 
-import modelpath  # noqa: F401  (before the modules of the model)
-import limits
-from limits import DESCRIPTORS, FILES, HEADER_LENGTH, ITEMS, KINDS, NAMES, PROCESSES
-from limits import RULE_LIMIT, VALUE_LENGTHS
-from logtext import FORMS, Form
-from phrases import WORD_OF_KIND
-from records import Call, Rule, read_frame
-from tracker import (
-    FIELD_RANGES,
-    NEEDS_DESCRIPTOR,
-    NEEDS_NAME,
-    NEW_CONTAINER,
-    NEW_DESCRIPTORS,
-    NEW_NAME,
-    NEW_PROCESS,
-    UNUSED,
-    State,
-    call_refusals,
-    first_refusal,
-    forbids,
-    rule_refusals,
-    substitutes,
-)
-from words import Words, joined, numbers_text, plural, set_words
+from model import limits
+from model.limits import DESCRIPTORS, FILES, HEADER_LENGTH, ITEMS, NAMES, PROCESSES, RULE_LIMIT
+from model.limits import VALUE_LENGTHS, Kind, Refusal
+from model.logtext import FORMS, Form
+from model.records import CALL_FIELDS, RULE_ITEMS, Call, Rule, read_frame, stated_length
+from model.tracker import CONTAINER, DESCRIPTOR, LINK, NAME, NEW_THINGS, PROCESS, UNUSED, Fact
+from model.tracker import State, first_refusal, forbids, frame_facts, record_facts, refusals
+from tools.phrases import WORD_OF_KIND
+from tools.words import Words, joined, numbers_text, plural, set_words
 
-RULE_ITEMS = ("first", "second")  # the items of a rule as fields
 ENDS = ("from", "to")  # keys that do not say what they are keys to
 
 
 class Failed(NamedTuple):
-    """A test that a record fails."""
+    """A test that a record fails, in words."""
 
     text: str
     field: str = ""  # the field to change; empty if no other value helps
@@ -50,31 +34,43 @@ class Failed(NamedTuple):
 
 
 class Case(NamedTuple):
-    """What the tests look at."""
+    """What the words are about."""
 
     words: Words
     state: State
     data: bytes
     record: Any  # a Call or a Rule; None for refusals 1 to 3
 
+    def facts(self) -> List[Fact]:
+        """The tests that the record fails."""
+        if self.record is None:
+            return list(frame_facts(self.state, read_frame(self.data)))
+        return list(record_facts(self.state, self.record))
+
+    def value(self, fact: Fact) -> int:
+        """What the field at fault says."""
+        if fact.field in RULE_ITEMS:
+            return self.record.items[RULE_ITEMS.index(fact.field)]
+        return getattr(self.record, fact.field)
+
     def leads(self, descriptor: int) -> Optional[int]:
         """Where a descriptor of the caller leads."""
         return self.state.descriptors.get((self.record.process, descriptor))
 
 
-class Refusal(NamedTuple):
+class Reason(NamedTuple):
     """A refusal, and what becomes of the record once its tests are passed."""
 
-    number: int
-    failed: List[Failed]
+    number: Refusal
+    facts: List[Fact]
+    failed: List[Failed]  # the same in words
     mended: Any  # the record as it was meant, with these tests passed; None if there is none
-    then: Optional["Refusal"]  # what the mended record is refused with
+    then: Optional["Reason"]  # what the mended record is refused with
 
 
-def refusal_number(state: State, record: Any) -> Optional[int]:
+def refusal_number(state: State, record: Any) -> Optional[Refusal]:
     """What a record of a known tag and length is refused with."""
-    is_call = isinstance(record, Call)
-    found = call_refusals(state, record) if is_call else rule_refusals(state, record)
+    found = refusals(record_facts(state, record))
     return first_refusal(found) if found else None
 
 
@@ -98,7 +94,7 @@ def field_words(form: Form) -> Dict[str, str]:
         if key in ENDS:
             key = part.shape.partition("=")[2].lower()
         words += [key.rstrip("s") if part.size > 1 else key or "process"] * part.size
-    return dict(zip(Call._fields[1:], words))
+    return dict(zip(CALL_FIELDS, words))
 
 
 FIELD_WORDS = {form.lead[0]: field_words(form) for form in FORMS if form.tag == limits.CALL_TAG}
@@ -106,100 +102,75 @@ FIELD_WORDS = {form.lead[0]: field_words(form) for form in FORMS if form.tag == 
 
 def free_numbers(case: Case, field: str) -> List[int]:
     """The free numbers for something new that a field of a call names; none if it names none."""
-    kind, state = case.record.kind, case.state
-    if field == NEW_PROCESS.get(kind):
+    state = case.state
+    thing = NEW_THINGS.get(case.record.kind, {}).get(field)
+    if thing == PROCESS:
         return [process for process in PROCESSES if process not in state.live]
-    if field in NEW_DESCRIPTORS.get(kind, ""):
+    if thing == DESCRIPTOR:
         return [d for d in DESCRIPTORS if case.leads(d) is None]
-    if field == NEW_NAME.get(kind):
+    if thing == NAME:
         return [number for number in NAMES if number not in state.names]
-    if field == NEW_CONTAINER.get(kind):
-        return [number for number in FILES if number not in state.used()]
+    if thing == CONTAINER:
+        used = state.used()
+        return [number for number in FILES if number not in used]
     return []
 
 
 # Rows 1 to 5: the form of the record.
 
 
-def cut_short(case: Case) -> List[Failed]:
+def cut_short(case: Case, fact: Fact) -> Failed:
     """Row 1."""
-    length = len(case.data)
-    advice = "copy the log again, whole: reading ends here"
-    if length < HEADER_LENGTH:
-        where, whole = "the log ends in this record's header", HEADER_LENGTH
-    else:
-        where = "the log ends in this record"
-        whole = HEADER_LENGTH + int.from_bytes(case.data[1:HEADER_LENGTH], "big")
+    length, whole = len(case.data), stated_length(case.data)
+    where = "this record's header" if length < HEADER_LENGTH else "this record"
     there = "is there" if length == 1 else "are there"
-    return [Failed(f"{where}: {length} of {whole} bytes {there}", advice=advice)]
+    text = f"the log ends in {where}: {length} of {whole} bytes {there}"
+    return Failed(text, advice="copy the log again, whole: reading ends here")
 
 
-def unknown_tag(case: Case) -> List[Failed]:
+def unknown_tag(case: Case, fact: Fact) -> Failed:
     """Row 2."""
     known = joined(f"{tag:02x}" for tag in VALUE_LENGTHS)
-    return [Failed(f"tag {case.data[0]:02x} hex is unknown", advice=f"known tags are {known} hex")]
+    return Failed(f"tag {case.data[0]:02x} hex is unknown", advice=f"known tags are {known} hex")
 
 
-def wrong_length(case: Case) -> List[Failed]:
+def wrong_length(case: Case, fact: Fact) -> Failed:
     """Row 3."""
-    frame = read_frame(case.data)
-    found = len(frame.value) if frame else 0
-    tag = case.data[0]
-    text = f"a length of {found}, and tag {tag:02x} hex has length {VALUE_LENGTHS[tag]}"
-    return [Failed(text)]
+    found, tag = len(case.data) - HEADER_LENGTH, case.data[0]
+    return Failed(f"a length of {found}, and tag {tag:02x} hex has length {VALUE_LENGTHS[tag]}")
 
 
-def unknown_kind(case: Case) -> List[Failed]:
-    """Row 4."""
-    if isinstance(case.record, Rule):
-        text = f"action {case.record.action} is unknown"
-        return [Failed(text, "action", limits.ACTIONS, "known one{s}")]
-    return [Failed(f"kind {case.record.kind} is unknown", "kind", KINDS, "known one{s}")]
+def unknown_kind(case: Case, fact: Fact) -> Failed:
+    """Row 4: the kind of a call, or the action of a rule."""
+    text = f"{fact.field} {case.value(fact)} is unknown"
+    return Failed(text, fact.field, list(fact.allowed), "known one{s}")
 
 
-def out_of_range(case: Case) -> List[Failed]:
+def out_of_range(case: Case, fact: Fact) -> Failed:
     """Row 5."""
-    record = case.record
-    if isinstance(record, Rule):
-        return rule_out_of_range(record)
-    kind = WORD_OF_KIND[record.kind]
-    found = []
-    for field, allowed in zip(Call._fields[1:], FIELD_RANGES[record.kind]):
-        value = getattr(record, field)
-        if value in allowed:
-            continue
-        if allowed == UNUSED:
-            text = f"field {field} is {value}, and {kind} does not use it"
-            found.append(Failed(text, field, allowed, advice="it must be 0", offers=allowed))
-            continue
-        text = f"{FIELD_WORDS[record.kind][field]} {value} is out of range"
-        fitting = f"number{{s}} for {kind} there"
-        found.append(Failed(text, field, allowed, fitting, offers=free_numbers(case, field)))
-    return found
-
-
-def rule_out_of_range(rule: Rule) -> List[Failed]:
-    """Row 5 of a rule."""
-    found = [
-        Failed(f"item {item} is out of range", field, ITEMS, "item{s}")
-        for field, item in zip(RULE_ITEMS, rule.items)
-        if item not in ITEMS
-    ]
-    allowed = sorted(substitutes(rule.action))
-    if rule.substitute not in allowed:
-        text = f"substitute {rule.substitute} is out of range"
-        found.append(Failed(text, "substitute", allowed, f"one{{s}} for action {rule.action}"))
-    return found
+    value, allowed = case.value(fact), sorted(fact.allowed)
+    if isinstance(case.record, Rule):
+        item = fact.field in RULE_ITEMS
+        text = f"{'item' if item else fact.field} {value} is out of range"
+        fitting = "item{s}" if item else f"one{{s}} for action {case.record.action}"
+        return Failed(text, fact.field, allowed, fitting)
+    kind = WORD_OF_KIND[case.record.kind]
+    if fact.allowed == UNUSED:
+        text = f"field {fact.field} is {value}, and {kind} does not use it"
+        return Failed(text, fact.field, allowed, advice="it must be 0", offers=allowed)
+    text = f"{FIELD_WORDS[case.record.kind][fact.field]} {value} is out of range"
+    fitting = f"number{{s}} for {kind} there"
+    return Failed(text, fact.field, allowed, fitting, offers=free_numbers(case, fact.field))
 
 
 # Rows 6 to 10: the state.
 
 
-def dead_process(case: Case) -> List[Failed]:
+def dead_process(case: Case, fact: Fact) -> Failed:
     """Row 6."""
-    text = f"{case.words.process(case.record.process)} is not live"
-    live = sorted(case.state.live)
-    return [Failed(text, "process", live, "live one{s}", "no process is live: start one first")]
+    text = f"{case.words.process(case.value(fact))} is not live"
+    none = "no process is live: start one first"
+    return Failed(text, fact.field, sorted(case.state.live), "live one{s}", none)
 
 
 def users(case: Case, container: int) -> str:
@@ -217,120 +188,106 @@ def users(case: Case, container: int) -> str:
     return joined([*found, *(f"link {link}" for link in links)])
 
 
-def taken_number(case: Case, field: str, text: str, fitting: str, none: str) -> Failed:
-    """A field that names something new by a number that is taken."""
-    free = free_numbers(case, field)
-    return Failed(text, field, free, fitting, none, offers=free)
+def taken_words(case: Case, fact: Fact) -> Tuple[str, str, str]:
+    """What is taken, what free ones are called, and what is said if there are none."""
+    value, words = case.value(fact), case.words
+    if fact.thing == PROCESS:
+        return f"{words.process(value)} is live already", "one{s} not live", "every process is live"
+    if fact.thing == CONTAINER:
+        text = f"container {value} is in use by {users(case, value)}"
+        return text, "free one{s}", "every container is in use"
+    led = words.containers(fact.containers)
+    if fact.thing == NAME:
+        text = f"{words.name(value)} is bound and leads to {led}"
+        return text, "unbound one{s}", "every name is bound"
+    owner = words.process(case.record.process)
+    text = f"descriptor {value} of {owner} is open and leads to {led}"
+    return text, "closed one{s}", f"{owner} has every descriptor open: close one first"
 
 
-def taken_descriptors(case: Case) -> List[Failed]:
-    """Row 7, the descriptors to open."""
-    call = case.record
-    owner = case.words.process(call.process)
-    none = f"{owner} has every descriptor open: close one first"
-    found = []
-    for field in NEW_DESCRIPTORS.get(call.kind, ""):
-        number = getattr(call, field)
-        target = case.leads(number)
-        if target is not None:
-            led = case.words.container(target)
-            text = f"descriptor {number} of {owner} is open and leads to {led}"
-            found.append(taken_number(case, field, text, "closed one{s}", none))
-    return found
+def taken(case: Case, fact: Fact) -> Failed:
+    """Row 7: a field names something new by a number that is taken."""
+    text, fitting, none = taken_words(case, fact)
+    free = free_numbers(case, fact.field)
+    return Failed(text, fact.field, free, fitting, none, offers=free)
 
 
-def taken(case: Case) -> List[Failed]:
-    """Row 7."""
-    call, state, words = case.record, case.state, case.words
-    found = []
-    field = NEW_PROCESS.get(call.kind)
-    if field and getattr(call, field) in state.live:
-        text = f"{words.process(getattr(call, field))} is live already"
-        found.append(taken_number(case, field, text, "one{s} not live", "every process is live"))
-    found += taken_descriptors(case)
-    field = NEW_NAME.get(call.kind)
-    if field and getattr(call, field) in state.names:
-        name = getattr(call, field)
-        text = f"{words.name(name)} is bound and leads to {words.container(state.names[name])}"
-        found.append(taken_number(case, field, text, "unbound one{s}", "every name is bound"))
-    field = NEW_CONTAINER.get(call.kind)
-    if field and getattr(call, field) in state.used():
-        container = getattr(call, field)
-        text = f"container {container} is in use by {users(case, container)}"
-        found.append(taken_number(case, field, text, "free one{s}", "every container is in use"))
-    return found
-
-
-def missing_descriptor(case: Case) -> List[Failed]:
+def missing_descriptor(case: Case, fact: Fact) -> Failed:
     """Row 8, a closed descriptor; a truncate needs one that leads to a file or a pipe."""
-    call = case.record
-    owner = case.words.process(call.process)
-    text = f"descriptor {call.a} of {owner} is closed"
-    files = call.kind == limits.TRUNCATE
+    owner = case.words.process(case.record.process)
+    text = f"descriptor {case.value(fact)} of {owner} is closed"
+    files = case.record.kind == Kind.TRUNCATE
     kept = FILES if files else limits.CONTAINERS
     opened = [d for d in DESCRIPTORS if case.leads(d) in kept]
     fitting = "open one{s} with a file or pipe" if files else "open one{s}"
     none = "no file or pipe" if files else "none"
-    return [Failed(text, "a", opened, fitting, f"{owner} has {none} open: open one first")]
+    return Failed(text, fact.field, opened, fitting, f"{owner} has {none} open: open one first")
 
 
-def missing(case: Case) -> List[Failed]:
+def missing_name(case: Case, fact: Fact) -> Failed:
+    """Row 8, an unbound name."""
+    text, bound = f"{case.words.name(case.value(fact))} is unbound", sorted(case.state.names)
+    none = "no name is bound: create a file first"
+    return Failed(text, fact.field, bound, "bound one{s}", none)
+
+
+def missing_link(case: Case, fact: Fact) -> Failed:
+    """Row 8, a container that the caller does not map."""
+    caller = case.record.caller
+    owner, other = case.words.process(case.record.process), case.words.container(case.value(fact))
+    ends = {end for link in case.state.links if caller in link for end in link} - {caller}
+    text = f"there is no link between {owner} and {other}"
+    none = f"{owner} has no link at all: map a descriptor first"
+    return Failed(text, fact.field, sorted(ends), "container{s} linked with it", none)
+
+
+def missing_container(case: Case, fact: Fact) -> Failed:
+    """Row 8, a container that is not in use."""
+    value = case.value(fact)
+    state_of_it = "live" if value in limits.PROCESS_CONTAINERS else "in use"
+    text = f"{case.words.container(value)} is not {state_of_it}"
+    return Failed(text, fact.field, sorted(case.state.used()), "container{s} in use")
+
+
+MISSING: Dict[str, Callable[[Case, Fact], Failed]] = {
+    DESCRIPTOR: missing_descriptor,
+    NAME: missing_name,
+    LINK: missing_link,
+    CONTAINER: missing_container,
+}
+
+
+def missing(case: Case, fact: Fact) -> Failed:
     """Row 8."""
-    call, state, words = case.record, case.state, case.words
-    if call.kind in NEEDS_DESCRIPTOR:
-        return missing_descriptor(case)
-    if call.kind in NEEDS_NAME:
-        text = f"{words.name(call.a)} is unbound"
-        none = "no name is bound: create a file first"
-        return [Failed(text, "a", sorted(state.names), "bound one{s}", none)]
-    if call.kind == limits.UNMAP:
-        owner = words.process(call.process)
-        text = f"there is no link between {owner} and {words.container(call.a)}"
-        ends = {end for link in state.links if call.caller in link for end in link}
-        none = f"{owner} has no link at all: map a descriptor first"
-        return [
-            Failed(text, "a", sorted(ends - {call.caller}), "container{s} linked with it", none)
-        ]
-    state_of_it = "live" if call.a in limits.PROCESS_CONTAINERS else "in use"
-    text = f"{words.container(call.a)} is not {state_of_it}"
-    return [Failed(text, "a", sorted(state.used()), "container{s} in use")]
+    return MISSING[fact.thing](case, fact)
 
 
-def same_twice(case: Case) -> List[Failed]:
+def same_twice(case: Case, fact: Fact) -> Failed:
     """Row 9."""
-    record = case.record
-    if isinstance(record, Rule):
-        others = [item for item in ITEMS if item != record.items[0]]
-        text = f"both items are {record.items[0]}"
-        return [Failed(text, "second", others, "other item{s}")]
-    others = [d for d in free_numbers(case, "b") if d != record.a]
-    text, none = f"both descriptors are {record.a}", "no other descriptor is closed"
-    return [Failed(text, "b", others, "other closed one{s}", none, offers=others)]
+    value = case.value(fact)
+    if isinstance(case.record, Rule):
+        others = [item for item in ITEMS if item != value]
+        return Failed(f"both items are {value}", fact.field, others, "other item{s}")
+    others = [d for d in free_numbers(case, fact.field) if d != value]
+    text, none = f"both descriptors are {value}", "no other descriptor is closed"
+    return Failed(text, fact.field, others, "other closed one{s}", none, offers=others)
 
 
-def no_file(case: Case) -> List[Failed]:
+def no_file(case: Case, fact: Fact) -> Failed:
     """Row 10."""
-    device = case.leads(case.record.a)
-    text = f"descriptor {case.record.a} leads to {case.words.container(device or 0)}"
+    text = f"descriptor {case.value(fact)} leads to {case.words.containers(fact.containers)}"
     files = [d for d in DESCRIPTORS if case.leads(d) in FILES]
     none = "only a file or a pipe can be truncated, and none is open"
-    return [Failed(text, "a", files, "one{s} with a file or pipe", none)]
+    return Failed(text, fact.field, files, "one{s} with a file or pipe", none)
 
 
 # Rows 11 and 12: rules.
 
 
-def rules_full(case: Case) -> List[Failed]:
+def rules_full(case: Case, fact: Fact) -> Failed:
     """Row 11."""
     text = f"{RULE_LIMIT} rules are held, the most there can be"
-    return [Failed(text, advice="a rule cannot be removed: put fewer rules into the log")]
-
-
-def broken_places(state: State, rule: Rule) -> List[int]:
-    """The containers that break a rule."""
-    if rule.tag == limits.COMBINATION_TAG:
-        return [c for c in limits.CONTAINERS if state.items[c].issuperset(rule.items)]
-    return [c for c in state.holders(rule.items[0]) if forbids(rule, c, rule.items[0])]
+    return Failed(text, advice="a rule cannot be removed: put fewer rules into the log")
 
 
 def protects(rule: Rule) -> bool:
@@ -338,36 +295,35 @@ def protects(rule: Rule) -> bool:
     return any(forbids(rule, container, rule.items[0]) for container in limits.CONTAINERS)
 
 
-def broken_already(case: Case) -> List[Failed]:
+def broken_already(case: Case, fact: Fact) -> Failed:
     """Row 12; a rule that leaves out what breaks it is offered if it protects something else."""
-    rule, words = case.record, case.words
-    places = broken_places(case.state, rule)
+    rule, words, places = case.record, case.words, fact.containers
     hold = "holds" if len(places) == 1 else "hold"
     text = f"{words.containers(places)} {hold} {joined(map(words.item, rule.items))} now"
-    if rule.tag == limits.COMBINATION_TAG:
-        return [Failed(text, advice="load the rule before the two items meet")]
+    if rule.tag == limits.SEPARATE_TAG:
+        return Failed(text, advice="load the rule before the two items meet")
     fixed = rule.containers.symmetric_difference(places)
     if not protects(rule._replace(containers=fixed)):
-        return [Failed(text, advice="load the rule before the item gets there")]
-    change = "without {} in its set" if rule.tag == limits.DENY_TAG else "with {} in its set too"
+        return Failed(text, advice="load the rule before the item gets there")
+    change = "without {} in its set" if rule.tag == limits.FORBID_TAG else "with {} in its set too"
     open_now = f"{change.format(set_words(words, places))}, which it would not protect"
     advice = f"it would be loaded {open_now}, or before the item gets there"
-    return [Failed(text, "containers", [fixed], advice=advice, offers=[fixed])]
+    return Failed(text, "containers", [fixed], advice=advice, offers=[fixed])
 
 
-TESTS: Dict[int, Callable[[Case], List[Failed]]] = {
-    limits.CUT_SHORT: cut_short,
-    limits.UNKNOWN_TAG: unknown_tag,
-    limits.WRONG_LENGTH: wrong_length,
-    limits.UNKNOWN_KIND: unknown_kind,
-    limits.OUT_OF_RANGE: out_of_range,
-    limits.DEAD_PROCESS: dead_process,
-    limits.TAKEN: taken,
-    limits.MISSING: missing,
-    limits.SAME_TWICE: same_twice,
-    limits.NO_FILE: no_file,
-    limits.RULES_FULL: rules_full,
-    limits.BROKEN_ALREADY: broken_already,
+WORDINGS: Dict[Refusal, Callable[[Case, Fact], Failed]] = {
+    Refusal.CUT_SHORT: cut_short,
+    Refusal.UNKNOWN_TAG: unknown_tag,
+    Refusal.WRONG_LENGTH: wrong_length,
+    Refusal.UNKNOWN_KIND: unknown_kind,
+    Refusal.OUT_OF_RANGE: out_of_range,
+    Refusal.DEAD_PROCESS: dead_process,
+    Refusal.TAKEN: taken,
+    Refusal.MISSING: missing,
+    Refusal.SAME_TWICE: same_twice,
+    Refusal.NO_FILE: no_file,
+    Refusal.RULES_FULL: rules_full,
+    Refusal.BROKEN_ALREADY: broken_already,
 }
 
 
@@ -381,23 +337,24 @@ def mend(case: Case, failed: List[Failed]) -> Any:
     record = case.record
     for test in failed:
         others = [replaced(record, test.field, value) for value in test.offers]
-        record = next((other for other in others if not is_same_pipe(other)), others[0])
+        record = next((other for other in others if not is_same_twice(case, other)), others[0])
     passing = (other for other in others if refusal_number(case.state, other) is None)
     return next(passing, record)
 
 
-def is_same_pipe(record: Any) -> bool:
-    """Whether a record is a pipe whose two descriptors are one."""
-    return isinstance(record, Call) and record.kind == limits.PIPE and record.a == record.b
+def is_same_twice(case: Case, record: Any) -> bool:
+    """Whether row 9 applies to a record in the place of the refused one."""
+    return Refusal.SAME_TWICE in refusals(record_facts(case.state, record))
 
 
-def refusal_of(case: Case, number: int) -> Refusal:
+def reason_of(case: Case, number: Refusal) -> Reason:
     """The refusal with a number, taken apart."""
-    failed = TESTS[number](case)
+    facts = [fact for fact in case.facts() if fact.refusal == number]
+    failed = [WORDINGS[number](case, fact) for fact in facts]
     mended = mend(case, failed)
     then = refusal_number(case.state, mended) if mended is not None else None
-    following = refusal_of(case._replace(record=mended), then) if then is not None else None
-    return Refusal(number, failed, mended, following)
+    following = reason_of(case._replace(record=mended), then) if then is not None else None
+    return Reason(number, facts, failed, mended, following)
 
 
 def failed_text(test: Failed) -> str:

@@ -5,14 +5,13 @@ import textwrap
 from collections import Counter
 from typing import Dict, Iterator, List, NamedTuple, Optional, Set
 
-import modelpath  # noqa: F401  (before the modules of the model)
-from explain import Explanation, explain, way_lines
-from limits import CONTAINERS, ITEMS
-from logtext import CONTAINER_NAMES, Unfit, counted, read_number
-from names import Own
-from phrases import ANSWERS
-from provenance import Moment, Step
-from words import Words
+from model.limits import CONTAINERS, ITEMS
+from model.logtext import CONTAINER_NAMES, Unfit, counted, read_number
+from tools.explain import Explanation, explain, way_lines
+from tools.names import Own
+from tools.phrases import ANSWERS
+from tools.provenance import Moment, Step
+from tools.words import Words
 
 INDENT = "    "
 TOGETHER = re.compile(

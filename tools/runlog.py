@@ -13,14 +13,15 @@ from pathlib import Path
 from typing import List, NamedTuple, NoReturn
 
 sys.dont_write_bytecode = True
+ROOT = Path(__file__).resolve().parents[1]
+sys.path.insert(0, str(ROOT))
 
-import modelpath  # noqa: E402, F401
-from limits import LOG_LIMIT  # noqa: E402
-from logfiles import BAD_INPUT, FORMS_HELP, NOT_WRITTEN_HELP, STANDARD, Log, Parser  # noqa: E402
-from logfiles import add_form, read_log, run_command, speaker  # noqa: E402
-from logtext import REFUSAL_WORDS, assemble_line, record_text, split_records  # noqa: E402
-from logtext import text_lines  # noqa: E402
-from program import ROOT, Failure, answers_in, answers_of, ready_program, run_program  # noqa: E402
+from model.limits import LOG_LIMIT  # noqa: E402
+from model.logfiles import BAD_INPUT, FORMS_HELP, NOT_WRITTEN_HELP, STANDARD, Log  # noqa: E402
+from model.logfiles import Parser, add_form, read_log, run_command, speaker  # noqa: E402
+from model.logtext import REFUSAL_WORDS, assemble_line, record_text, split_records  # noqa: E402
+from model.logtext import text_lines  # noqa: E402
+from tools.program import Failure, answers_in, answers_of, ready_program, run_program  # noqa: E402
 
 STORY = ROOT / "logs" / "rowers.log.txt"
 SHOWN_BYTES = 16  # of a raw value in --show

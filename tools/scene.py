@@ -7,14 +7,14 @@ with another container, so it never crosses a column.
 
 from typing import Dict, Iterable, List, NamedTuple, Tuple
 
-import modelpath  # noqa: F401  (before the modules of the model)
-from boxes import GONE, LINE, NEW, WIDTH, Content, content_of, draw_content, element, frame, path
-from limits import DEVICES, FILES, PROCESS_CONTAINERS
-from names import Own
-from phrases import WORD_OF_KIND
-from provenance import Link
-from views import View
-from words import Words
+from model.limits import DEVICES, FILES, PROCESS_CONTAINERS
+from tools.boxes import GONE, LINE, NEW, WIDTH, Content, content_of, draw_content, element, frame
+from tools.boxes import path
+from tools.names import Own
+from tools.phrases import WORD_OF_KIND
+from tools.provenance import Link
+from tools.views import View
+from tools.words import Words
 
 MARGIN = 16
 BETWEEN_BOXES = 10

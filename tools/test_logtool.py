@@ -9,25 +9,28 @@ import pty
 import subprocess
 import sys
 import tempfile
+from functools import lru_cache
 from importlib.machinery import SourceFileLoader
 from importlib.util import module_from_spec, spec_from_loader
+from pathlib import Path
 from types import ModuleType
 from typing import Iterable, List, NamedTuple, Tuple
 from unittest import mock
 
-import modelpath
-import limits
-import logtext
-from checks import Checks, Options
-from choices import Choices
-from faults import EDGES
-from generate import MIXES, generate_records
-from records import frame_bytes
-from test_runs import RUN_B_INPUT, RUN_B_OUTPUT
-from tracker import State, Tracker
+ROOT = Path(__file__).resolve().parents[1]
+sys.path.insert(0, str(ROOT))
+
+from model import limits, logtext  # noqa: E402
+from model.checks import Checks, Options  # noqa: E402
+from model.choices import Choices  # noqa: E402
+from model.faults import EDGES  # noqa: E402
+from model.generate import MIXES, generate_records  # noqa: E402
+from model.records import frame_bytes  # noqa: E402
+from model.test_runs import RUN_B_INPUT, RUN_B_OUTPUT  # noqa: E402
+from model.tracker import State, Tracker  # noqa: E402
 
 DEFAULT_SEED = 20260
-LOGTOOL = [sys.executable, os.path.join(modelpath.ROOT, "tools", "logtool")]
+LOGTOOL = [sys.executable, os.path.join(ROOT, "tools", "logtool")]
 RUN_B_FAULT = "found 2 bytes of record 9, expected at least 3; the log is cut short"
 TOO_LONG = "found more than 65,536 bytes"
 COMMANDS = {  # each with the options that it cannot do without here
@@ -37,7 +40,7 @@ COMMANDS = {  # each with the options that it cannot do without here
     "explain": ["--model-only"],
     "draw": ["-o", "none.svg"],
 }
-LOGS = sorted(glob.glob(os.path.join(modelpath.ROOT, "logs", "*.log.txt")))
+LOGS = sorted(glob.glob(os.path.join(ROOT, "logs", "*.log.txt")))
 
 # A text and its bytes in hex, which go both ways.
 FORM_PAIRS = [
@@ -264,6 +267,7 @@ def test_random_texts(checks: Checks, options: Options) -> None:
 # The command line.
 
 
+@lru_cache(maxsize=None)
 def load_logtool() -> ModuleType:
     """The command line as a module, to run it many times in this process."""
     loader = SourceFileLoader("logtool", LOGTOOL[1])
@@ -357,8 +361,8 @@ def test_bad_commands(checks: Checks, options: Options) -> None:
         words = [name, "no-directory/file", *more]
         parts = ["no-directory/file", "No such file", "give a file that can be read"]
         check_bad(checks, words, parts)
-        words = [name, modelpath.ROOT, *more]
-        parts = [modelpath.ROOT, "Is a directory", "give a file that can be read"]
+        words = [name, str(ROOT), *more]
+        parts = [str(ROOT), "Is a directory", "give a file that can be read"]
         check_bad(checks, words, parts)
     check_bad(checks, ["assemble", "-"], ["standard input, line 1: found 'x'"], b"x\n")
     for name in ("show", "explain", "draw"):
@@ -422,7 +426,7 @@ def test_show(checks: Checks, options: Options) -> None:
         "9  refused 1 (cut short)  raw 10 00  # cut short\n"
     )
     check_output(checks, ["show", "-"], RUN_B_INPUT, expected.encode(), RUN_B_FAULT)
-    text_file = os.path.join(modelpath.ROOT, "logs", "run-b.log.txt")
+    text_file = os.path.join(ROOT, "logs", "run-b.log.txt")
     check_output(checks, ["show", text_file], b"", expected.encode(), RUN_B_FAULT)
     long = frame_bytes(0xFF, bytes(5000))
     shown = f"1  refused 2 (unknown tag)  raw ff 1388 {'00' * 16}...  # unknown tag ff hex\n"
@@ -447,7 +451,7 @@ def read_file(path: str) -> bytes:
 
 def named_log(name: str) -> bytes:
     """The bytes of a log of logs/."""
-    return logtext.assemble(read_file(os.path.join(modelpath.ROOT, "logs", f"{name}.log.txt")))
+    return logtext.assemble(read_file(os.path.join(ROOT, "logs", f"{name}.log.txt")))
 
 
 def answer_lines(log: bytes) -> List[str]:
@@ -459,7 +463,7 @@ def test_logs_get_their_answers(checks: Checks, options: Options) -> None:
     names = [os.path.basename(path)[: -len(".log.txt")] for path in LOGS]
     checks.equal("logs", names, ["evaluation", "rowers", "run-b"])
     for name in names:
-        expected = read_file(os.path.join(modelpath.ROOT, "logs", f"{name}.expected")).decode()
+        expected = read_file(os.path.join(ROOT, "logs", f"{name}.expected")).decode()
         renew = f"tools/logtool assemble logs/{name}.log.txt | model/modelrun answers -"
         answers = "".join(line + "\n" for line in answer_lines(named_log(name)))
         checks.true(f"answers to {name}", answers == expected, f"see what is right: {renew}")

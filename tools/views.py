@@ -2,19 +2,11 @@
 
 from typing import Dict, FrozenSet, Iterable, List, NamedTuple, Optional, Set
 
-import modelpath  # noqa: F401  (before the modules of the model)
-from changes import Changes, changes_between
-from limits import (
-    CONTAINERS,
-    DENY_TAG,
-    DEVICES,
-    DIVERT_ACTION,
-    PROCESS_CONTAINERS,
-    process_container,
-)
-from provenance import BREAKING, DONE, Link, Moment, Step, fresh, gifts_of
-from reasons import broken_places
-from tracker import ALLOW, State, forbids
+from model.limits import CONTAINERS, DEVICES, DIVERT_ACTION, FORBID_TAG, PROCESS_CONTAINERS
+from model.limits import process_container
+from model.tracker import ALLOW, State, broken_places, forbids
+from tools.changes import Changes, changes_between
+from tools.provenance import BREAKING, DONE, Link, Moment, Step, fresh, gifts_of
 
 
 class View(NamedTuple):
@@ -86,7 +78,7 @@ def named_devices(state: State) -> Set[int]:
     """The devices in the set of a rule that forbids, or to which a rule diverts."""
     found: Set[int] = set()
     for rule in state.rules:
-        found.update(rule.containers if rule.tag == DENY_TAG else ())
+        found.update(rule.containers if rule.tag == FORBID_TAG else ())
         found.update([rule.substitute] if rule.action == DIVERT_ACTION else ())
     return found & {*DEVICES}
 

@@ -2,10 +2,9 @@
 
 from typing import Dict, Iterable, List, Optional
 
-import modelpath  # noqa: F401  (before the modules of the model)
-from limits import DEVICES, PROCESS_CONTAINERS, PROCESSES, process_container
-from logtext import CONTAINER_NAMES, DEVICE_NAMES, set_text
-from names import NO_OWN, Own
+from model.limits import DEVICES, PROCESSES, PROCESS_CONTAINERS, process_container
+from model.logtext import CONTAINER_NAMES, DEVICE_NAMES, set_text
+from tools.names import NO_OWN, Own
 
 MOST_NAMED = 4  # items in a row that are named one by one
 

@@ -8,17 +8,17 @@ from contextlib import contextmanager
 from pathlib import Path
 from typing import Dict, Iterator, List, NamedTuple, Optional
 
-import paths
-from checks import Checks
-from compare import model_lines
-from limits import LOG_LIMIT
-from logtext import assemble, record_text, split_records
-from test_runs import RUN_B_INPUT, RUN_B_OUTPUT
-from wrong import FAULTS, make_program
+from model import ROOT
+from model.checks import Checks
+from model.limits import LOG_LIMIT
+from model.logtext import assemble, record_text, split_records
+from model.test_runs import RUN_B_INPUT, RUN_B_OUTPUT
+from tests.logtests.compare import model_lines
+from tests.logtests.wrong import FAULTS, make_program
 
-COMMAND = paths.ROOT / "runlog"
-STORY = paths.ROOT / "logs" / "rowers.log.txt"
-RUN_B_TEXT = paths.ROOT / "logs" / "run-b.log.txt"
+COMMAND = ROOT / "runlog"
+STORY = ROOT / "logs" / "rowers.log.txt"
+RUN_B_TEXT = ROOT / "logs" / "run-b.log.txt"
 COPIED = ("runlog", "tools", "model", "logs")
 
 # Stands in for rt: notes its arguments, and puts a program where rt would.
@@ -234,8 +234,8 @@ class Copy:
         self.root.mkdir()
         self.bin.mkdir()
         for name in COPIED:
-            copy = shutil.copytree if (paths.ROOT / name).is_dir() else shutil.copy
-            copy(str(paths.ROOT / name), str(self.root / name))
+            copy = shutil.copytree if (ROOT / name).is_dir() else shutil.copy
+            copy(str(ROOT / name), str(self.root / name))
         (self.bin / "rt").write_text(RT)
         (self.bin / "rt").chmod(0o755)
         (self.root / "crates" / "runlog" / "src").mkdir(parents=True)

@@ -4,9 +4,8 @@ import subprocess
 from collections import Counter
 from typing import List, Optional
 
-import paths  # noqa: F401  (before the modules of the model)
-from limits import LOG_LIMIT
-from tracker import Tracker
+from model.limits import LOG_LIMIT
+from model.tracker import Tracker
 
 SECONDS = 10  # for one log
 MOST_HANGS = 3  # logs on which a program may hang before no more are run

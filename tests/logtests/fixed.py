@@ -4,21 +4,21 @@ import subprocess
 import time
 from typing import Dict, List, Tuple
 
-import paths
-from checks import Checks
-from compare import SECONDS, difference, fault_in, model_lines, program_output
-from limits import CALL_TAG, CUT_SHORT, KINDS, LOG_LIMIT, UNKNOWN_TAG, VALUE_LENGTHS
-from logtext import assemble, assemble_line, split_records
-from randomlogs import largest_calls, largest_log, random_log
-from records import frame_bytes
-from shorten import report
-from test_runs import RUN_B_INPUT, RUN_B_OUTPUT
+from model import ROOT
+from model.checks import Checks
+from model.limits import CALL_TAG, KINDS, LOG_LIMIT, VALUE_LENGTHS, Refusal
+from model.logtext import assemble, assemble_line, split_records
+from model.records import frame_bytes
+from model.test_runs import RUN_B_INPUT, RUN_B_OUTPUT
+from tests.logtests.compare import SECONDS, difference, fault_in, model_lines, program_output
+from tests.logtests.randomlogs import largest_calls, largest_log, random_log
+from tests.logtests.shorten import report
 
-RUNS = paths.ROOT / "tests" / "logtests" / "runs.txt"
+RUNS = ROOT / "tests" / "logtests" / "runs.txt"
 RUN_NAMES = "CDEFGHIJKLMN"
-LOGS = paths.ROOT / "logs"
+LOGS = ROOT / "logs"
 PAUSE = 0.05  # seconds between two pieces of an input
-CUT = f"refused {CUT_SHORT}"
+CUT = f"refused {Refusal.CUT_SHORT}"
 
 # A log with an accepted record of each kind and each tag of a rule, and one of unknown tag.
 EVERY_KIND = b"""
@@ -122,7 +122,7 @@ def test_prefixes(checks: Checks, program: str) -> None:
     loaded = {r[0] for r, a in zip(records, answers) if a.startswith("rule")}
     checks.equal("prefixes: kinds done", done, set(KINDS))
     checks.equal("prefixes: rules loaded", loaded, set(VALUE_LENGTHS) - {CALL_TAG})
-    checks.true("prefixes: an unknown tag", f"refused {UNKNOWN_TAG}" in answers)
+    checks.true("prefixes: an unknown tag", f"refused {Refusal.UNKNOWN_TAG}" in answers)
     ends = [sum(map(len, records[:count])) for count in range(len(records) + 1)]
     for length in range(len(log)):
         whole = sum(end <= length for end in ends) - 1

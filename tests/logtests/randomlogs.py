@@ -4,26 +4,14 @@ import itertools
 from collections import Counter
 from typing import Callable, List, NamedTuple, Optional
 
-import paths  # noqa: F401  (before the modules of the model)
-from choices import Choices
-from compare import difference, model_lines, program_output
-from generate import MIXES, Generator
-from limits import (
-    CALL_TAG,
-    CONTAINERS,
-    DEVICE,
-    DEVICES,
-    ITEMS,
-    LABEL,
-    LOG_LIMIT,
-    RULE_LIMIT,
-    VALUE_LENGTHS,
-    WRITE,
-    process_container,
-)
-from logtext import split_records
-from records import Call, deny, encode, frame_bytes, read_frame
-from tracker import forbids, frame_refusals
+from model.choices import Choices
+from model.generate import MIXES, Generator
+from model.limits import CALL_TAG, CONTAINERS, DEVICES, ITEMS, LOG_LIMIT, RULE_LIMIT, VALUE_LENGTHS
+from model.limits import Kind, process_container
+from model.logtext import split_records
+from model.records import Call, encode, forbid, frame_bytes, read_frame
+from model.tracker import forbids, frame_refusals
+from tests.logtests.compare import difference, model_lines, program_output
 
 # Answers show only what rules judge. So rules are also used to see who holds an item: one against
 # a single holder is refused as broken already, and one against all others is loaded.
@@ -72,9 +60,9 @@ class LogGenerator(Generator):
             return []
         descriptor = self.choices.near(closed)
         return [
-            Call(LABEL, 0, process_container(process), rule.items[0]),
-            Call(DEVICE, process, descriptor, self.choices.pick(forbidden)),
-            Call(WRITE, process, descriptor),
+            Call(Kind.LABEL, 0, process_container(process), rule.items[0]),
+            Call(Kind.DEVICE, process, descriptor, self.choices.pick(forbidden)),
+            Call(Kind.WRITE, process, descriptor),
         ]
 
     def _held_probe(self) -> Optional[bytes]:
@@ -84,7 +72,7 @@ class LogGenerator(Generator):
         if not holding:
             return None
         container = self.choices.pick(holding)
-        return encode(deny(self.choices.pick(sorted(items[container])), [container]))
+        return encode(forbid(self.choices.pick(sorted(items[container])), [container]))
 
     def tail(self) -> List[bytes]:
         """Labels of new items, then rules that show who holds them, and some other items."""
@@ -92,7 +80,7 @@ class LogGenerator(Generator):
         held = sorted(set().union(*state.items.values()))
         new = [item for item in ITEMS if item not in held]
         used = sorted(state.used())
-        labels = [Call(LABEL, 0, self.choices.pick(used), item) for item in new[:TAIL_LABELS]]
+        labels = [Call(Kind.LABEL, 0, self.choices.pick(used), item) for item in new[:TAIL_LABELS]]
         records = [self._answered(encode(label)) for label in labels]
         shown = [*new[:TAIL_LABELS], *held]
         while shown and len(records) < TAIL:
@@ -104,8 +92,8 @@ class LogGenerator(Generator):
         holders = self.tracker.state.holders(item)
         some = {self.choices.pick(holders) for _ in range(TAIL_HOLDERS)} if holders else set()
         others = [container for container in CONTAINERS if container not in holders]
-        probes = [encode(deny(item, [holder])) for holder in sorted(some)]
-        probes.append(encode(deny(item, others)))
+        probes = [encode(forbid(item, [holder])) for holder in sorted(some)]
+        probes.append(encode(forbid(item, others)))
         return [self._answered(probe) for probe in probes if not self._one_too_many(probe)]
 
     def _answered(self, record: bytes) -> bytes:

@@ -4,21 +4,12 @@ import time
 from itertools import zip_longest
 from typing import Callable, Iterable, Iterator, List, Optional, Tuple
 
-import paths  # noqa: F401  (before the modules of the model)
-from compare import TOO_LONG, fault_in, lines_of, model_lines, program_output
-from limits import (
-    CALL_TAG,
-    COMBINATION_TAG,
-    FILES,
-    HEADER_LENGTH,
-    KINDS,
-    LOG_LIMIT,
-    PROCESS_CONTAINERS,
-    VALUE_LENGTHS,
-)
-from logtext import record_text, split_records
-from proposals import ROLES
-from records import read_frame
+from model.limits import CALL_TAG, FILES, HEADER_LENGTH, KINDS, LOG_LIMIT, PROCESS_CONTAINERS
+from model.limits import SEPARATE_TAG, VALUE_LENGTHS
+from model.logtext import record_text, split_records
+from model.proposals import ROLES
+from model.records import read_frame
+from tests.logtests.compare import TOO_LONG, fault_in, lines_of, model_lines, program_output
 
 Records = List[bytes]
 SECONDS = 60  # for cutting down one log
@@ -102,7 +93,7 @@ def roles_of(record: bytes) -> List[Tuple[int, str]]:
     if not frame_is_right(record):
         return []
     last = len(record) - 1
-    if record[0] == COMBINATION_TAG:
+    if record[0] == SEPARATE_TAG:
         return [(HEADER_LENGTH, "item"), (HEADER_LENGTH + 1, "item"), (last, "container")]
     if record[0] != CALL_TAG:
         return [(HEADER_LENGTH, "item"), (last, "container")]
@@ -155,7 +146,7 @@ def renumbered(record: bytes, role: str, old: int, new: int) -> bytes:
 
 def has_set(record: bytes) -> bool:
     """Whether a record of the right length has a container set."""
-    return record[0] not in (CALL_TAG, COMBINATION_TAG)
+    return record[0] not in (CALL_TAG, SEPARATE_TAG)
 
 
 def exchanged(record: bytes, old: int, new: int) -> bytes:

@@ -6,7 +6,7 @@ import sys
 from pathlib import Path
 from typing import Dict
 
-import paths
+from model import ROOT
 
 # The lines that replace a part of the model.
 FAULTS: Dict[str, str] = {
@@ -23,14 +23,14 @@ tracker.State.reach = reach
     "empties a truncated file that is mapped": """
 def truncate(state, call):
     state.items[state.descriptors[call.process, call.a]] = frozenset()
-tracker.EFFECTS[TRUNCATE] = truncate
+tracker.EFFECTS[Kind.TRUNCATE] = truncate
 """,
     "tests rules against the written container only": """
 right_work_out = tracker.work_out
 right_broken_rules = tracker.broken_rules
 def judge_written(state, call):
     after = right_work_out(state, call)
-    if call.kind == WRITE:
+    if call.kind == Kind.WRITE:
         seen = state.copy()
         written = state.descriptors[call.process, call.a]
         seen.items[written] = after.items[written]
@@ -52,20 +52,20 @@ def divert_obstacle(state, call, rule):
 tracker.divert_obstacle = divert_obstacle
 """,
     "leaves a dead process's links": """
-right_exit = tracker.EFFECTS[EXIT]
+right_exit = tracker.EFFECTS[Kind.EXIT]
 def exit_process(state, call):
     links = state.links
     right_exit(state, call)
     state.links = links
-tracker.EFFECTS[EXIT] = exit_process
+tracker.EFFECTS[Kind.EXIT] = exit_process
 """,
 }
 
 PROGRAM = """#!{python} -S
 import sys
-sys.path.insert(0, {model!r})
-import tracker
-from limits import EXIT, LOG_LIMIT, TRUNCATE, WRITE
+sys.path.insert(0, {folder!r})
+from model import tracker
+from model.limits import LOG_LIMIT, Kind
 {fault}
 log = sys.stdin.buffer.read(LOG_LIMIT + 1)
 if len(log) > LOG_LIMIT:
@@ -75,19 +75,19 @@ else:
 """
 
 
-def copied_model(folder: Path) -> Path:
+def copy_model(folder: Path) -> None:
     """A copy of the model, compiled once, so that a program over it starts quickly."""
     if not folder.is_dir():
         folder.mkdir()
+        (folder / "__init__.py").touch()
         for name in ("limits.py", "records.py", "tracker.py"):
-            shutil.copy(paths.ROOT / "model" / name, folder)
+            shutil.copy(ROOT / "model" / name, folder)
         compileall.compile_dir(str(folder), quiet=1)
-    return folder
 
 
 def make_program(path: Path, fault: str = "") -> str:
     """Write a program that answers as the model, but for a fault."""
-    model = copied_model(path.parent / "model")
-    path.write_text(PROGRAM.format(python=sys.executable, model=str(model), fault=fault))
+    copy_model(path.parent / "model")
+    path.write_text(PROGRAM.format(python=sys.executable, folder=str(path.parent), fault=fault))
     path.chmod(0o755)
     return str(path)

@@ -11,15 +11,15 @@ import tempfile
 from pathlib import Path
 from typing import Any, Dict, List, Optional, Tuple
 
-from session import STORIES, Session, story_names, story_steps
-from drawing import crowded_log
-from explain import explain
-from generate import generate_records
-from names import NO_OWN, Own
-from page import html_text
-from provenance import Step, steps_of
-from scene import pair_of
-from views import View, views_of
+from model.generate import generate_records
+from tests.tools.drawing import crowded_log
+from tests.tools.session import STORIES, Session, story_names, story_steps
+from tools.explain import explain
+from tools.names import NO_OWN, Own
+from tools.page import html_text
+from tools.provenance import Step, steps_of
+from tools.scene import pair_of
+from tools.views import View, views_of
 
 BROWSERS = ("chromium", "chromium-browser", "google-chrome")
 QUICK = "-o Acquire::Retries=0 -o Acquire::http::Timeout=15 -o Acquire::https::Timeout=15"

@@ -6,7 +6,8 @@ import subprocess
 import sys
 from typing import Any, Dict, List, NamedTuple, Optional
 
-from session import ROOT, Session, in_process
+from model import ROOT
+from tests.tools.session import Session, in_process
 
 SECONDS = 60
 NAMELESS = "--names /dev/null"

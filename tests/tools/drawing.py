@@ -6,16 +6,17 @@ from pathlib import Path
 from typing import Iterator, List, Set, Tuple
 from xml.etree import ElementTree
 
-from session import LOGS, STORIES, Session, logtool, story_names, story_steps
-import boxes
-import limits
-from draw import dot_text, svg_text
-from logtext import assemble
-from names import NO_OWN
-from page import html_text
-from provenance import Step, steps_of
-from records import Call, combination, deny, encode, limit
-from views import views_of
+from model import limits
+from model.limits import Kind
+from model.logtext import assemble
+from model.records import Call, confine, encode, forbid, separate
+from tests.tools.session import LOGS, STORIES, Session, logtool, story_names, story_steps
+from tools import boxes
+from tools.draw import dot_text, svg_text
+from tools.names import NO_OWN
+from tools.page import html_text
+from tools.provenance import Step, steps_of
+from tools.views import views_of
 
 SVG = "{http://www.w3.org/2000/svg}"
 Area = Tuple[float, float, float, float]  # left, top, right, bottom
@@ -104,20 +105,20 @@ def layout_faults(svg: ElementTree.Element) -> Iterator[str]:
 
 def crowded_log() -> bytes:
     """A log with all 64 containers in use, many items, links and descriptors, and 32 rules."""
-    records: list = [Call(limits.START, process) for process in limits.PROCESSES]
+    records: list = [Call(Kind.START, process) for process in limits.PROCESSES]
     for place, container in enumerate(limits.FILES):
         process, descriptor = place % 16, place // 16
-        records.append(Call(limits.CREATE, process, place, descriptor, container))
-        records.append(Call(limits.LABEL, 0, container, place))
+        records.append(Call(Kind.CREATE, process, place, descriptor, container))
+        records.append(Call(Kind.LABEL, 0, container, place))
     for process in limits.PROCESSES:
-        records += [Call(limits.OPEN, process, process * 2, d) for d in range(5, 25)]
-        records += [Call(limits.DEVICE, process, 25 + n, (process + n) % 8) for n in range(4)]
-        records.append(Call(limits.MAP_BOTH if process % 3 else limits.MAP_READ, process, 0))
-        records += [Call(limits.MAP_READ, process, 5), Call(limits.MAP_READ, process, 25)]
-    records += [Call(limits.LINK, 0, 0, name) for name in range(41, 128, 2)]
-    records += [Call(limits.LABEL, 0, 8, item) for item in range(64)]
-    records += [deny(item, range(0, 64, 3), 1, 3) for item in range(49, 63)]
-    records += [limit(item, limits.CONTAINERS) for item in range(18)] + [combination(62, 63)]
+        records += [Call(Kind.OPEN, process, process * 2, d) for d in range(5, 25)]
+        records += [Call(Kind.DEVICE, process, 25 + n, (process + n) % 8) for n in range(4)]
+        records.append(Call(Kind.MAP_BOTH if process % 3 else Kind.MAP_READ, process, 0))
+        records += [Call(Kind.MAP_READ, process, 5), Call(Kind.MAP_READ, process, 25)]
+    records += [Call(Kind.LINK, 0, 0, name) for name in range(41, 128, 2)]
+    records += [Call(Kind.LABEL, 0, 8, item) for item in range(64)]
+    records += [forbid(item, range(0, 64, 3), 1, 3) for item in range(49, 63)]
+    records += [confine(item, limits.CONTAINERS) for item in range(18)] + [separate(62, 63)]
     return b"".join(map(encode, records))
 
 

@@ -4,14 +4,14 @@ import tempfile
 from pathlib import Path
 from typing import List
 
-from session import LOGS, STORIES, Result, Session, logtool, story_log
-import limits
-from explain import Explanation, explain
-from logtext import assemble
-from phrases import CALLS
-from provenance import steps_of
-from reasons import TESTS
-from wrong import FAULTS, make_program
+from model.limits import KINDS, RECORD_REFUSALS
+from model.logtext import assemble
+from tests.logtests.wrong import FAULTS, make_program
+from tests.tools.session import LOGS, STORIES, Result, Session, logtool, story_log
+from tools.explain import Explanation, explain
+from tools.phrases import CALLS
+from tools.provenance import steps_of
+from tools.reasons import WORDINGS
 
 # Short logs that others go on from.
 LIVE = "start 0\n"
@@ -373,14 +373,14 @@ MOODS = [
 ]
 
 # Calls that break a rule.
-DENY = "forbid item=1 in=panel inhibit\n"
+FORBID = "forbid item=1 in=panel inhibit\n"
 DIVERT = "forbid item=1 in=panel divert=port\n"
 NOT_IN_USE = "forbid item=1 in=panel divert=40\n"
 BOTH = "forbid item=1 in=panel divert=port\nforbid item=1 in=port inhibit\n"
-FAR = DENY + HELD + "device 0 descriptor=1 device=panel\nmap-both 0 descriptor=1\n"
+FAR = FORBID + HELD + "device 0 descriptor=1 device=panel\nmap-both 0 descriptor=1\n"
 STOPPED = [
     (
-        DENY + PANEL + "write 0 descriptor=1",
+        FORBID + PANEL + "write 0 descriptor=1",
         [
             "inhibit 0: it would break rule 0, and nothing is done",
             "rule 0 (record 1): item 1 may not be in device 1 (panel)",
@@ -460,10 +460,9 @@ def test_fixed_logs(session: Session) -> None:
         for log, parts in table:
             check_parts(session, name, log, parts)
     kinds = {assemble(log.splitlines()[-1].encode())[3] for log, _ in SENTENCES}
-    session.checks.true("a sentence for every kind", kinds >= set(limits.KINDS), str(kinds))
-    session.checks.equal("words for every kind", set(CALLS), set(limits.KINDS))
-    refusals = set(limits.REFUSAL_ORDER) - {limits.SLICE_SHORT}
-    session.checks.equal("tests for every refusal", set(TESTS), refusals)
+    session.checks.true("a sentence for every kind", kinds >= set(KINDS), str(kinds))
+    session.checks.equal("words for every kind", set(CALLS), set(KINDS))
+    session.checks.equal("wordings for every refusal", set(WORDINGS), set(RECORD_REFUSALS))
 
 
 def said_of(log: str) -> Explanation:

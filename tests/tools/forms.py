@@ -4,12 +4,12 @@ import tempfile
 from pathlib import Path
 from typing import List
 
-from session import LOGS, STORIES, Session, story_log
-from commands import NAMELESS, Ran, environment, inside, run
-from generate import MIXES, generate_records
-from logfiles import is_text
-from logtext import FORMS, disassemble
-from randomlogs import random_log
+from model.generate import MIXES, generate_records
+from model.logfiles import is_text
+from model.logtext import FORMS, disassemble
+from tests.logtests.randomlogs import random_log
+from tests.tools.commands import NAMELESS, Ran, environment, inside, run
+from tests.tools.session import LOGS, STORIES, Session, story_log
 
 SEEDS = range(1, 101)
 
@@ -206,3 +206,16 @@ def test_bad_texts(session: Session) -> None:
             good = ran.status == 2 and not ran.output and part in ran.message
             good = good and "add --bytes" in ran.message and "Traceback" not in ran.message
             session.checks.true(f"{words} on {text!r}", good, str(ran))
+
+
+def test_other_packages(session: Session) -> None:
+    """Installed packages with the names of the repository's own are not taken for them."""
+    story = LOGS / "rowers.log.txt"
+    with tempfile.TemporaryDirectory() as folder:
+        for name in ("model", "tools", "tests", "bench"):
+            (Path(folder) / name).mkdir()
+            (Path(folder) / name / "__init__.py").write_text("raise ImportError('another one')\n")
+        env = environment({"PYTHONPATH": folder})
+        for words in (words.format(story) for words in READING):
+            found = [run(session, words), run(session, words, env=env, cwd=folder)]
+            check_alike(session, f"{words}, beside other packages", found)

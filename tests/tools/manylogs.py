@@ -4,27 +4,27 @@ from collections import Counter
 from typing import Any, Dict, Iterator, List, Optional, Set, Tuple
 from xml.etree import ElementTree
 
-from session import Session, logtool
-import drawing
-import page
-import tracker
-from changes import Changes, changes_between
-from choices import Choices
-from draw import svg_text
-from explain import Explanation, explain
-from limits import BROKEN_ALREADY, CONTAINERS, CUT_SHORT, DENY_TAG, DEVICES, FILES, FORK, KINDS
-from limits import LABEL, MAP_BOTH, MAP_READ, READ, WRITE, process_container
-from logtext import assemble_line
-from names import NO_OWN
-from provenance import DONE, Origin, Step, chain, record_of, steps_of
-from randomlogs import log_generator
-from reasons import Case, Refusal, refusal_of, replaced
-from records import Call, Rule, encode, read_frame
-from report import full_lines
-from scene import Painter, all_contents, make_plan, needed, pair_of
-from tracker import State, Tracker, frame_refusals
-from views import view_at, views_of
-from words import Words
+from model import tracker
+from model.choices import Choices
+from model.limits import CONTAINERS, DEVICES, FILES, FORBID_TAG, KINDS, RECORD_REFUSALS, Kind
+from model.limits import process_container
+from model.logtext import assemble_line
+from model.records import Call, Rule, encode, read_frame
+from model.tracker import State, Tracker, frame_refusals
+from tests.logtests.randomlogs import log_generator
+from tests.tools import drawing
+from tests.tools.session import Session, logtool
+from tools import page
+from tools.changes import Changes, changes_between
+from tools.draw import svg_text
+from tools.explain import Explanation, explain
+from tools.names import NO_OWN
+from tools.provenance import DONE, Origin, Step, chain, record_of, steps_of
+from tools.reasons import Case, Reason, reason_of, replaced
+from tools.report import full_lines
+from tools.scene import Painter, all_contents, make_plan, needed, pair_of
+from tools.views import view_at, views_of
+from tools.words import Words
 
 RECORDS = range(20, 51)  # of a log
 LONG = 300  # of a few logs
@@ -56,12 +56,12 @@ def gives(call: Call, state: State) -> Set[Tuple[Optional[int], int]]:
     there = state.descriptors.get((call.process, call.a), -1)
     me = call.caller
     table = {
-        READ: {(there, me)},
-        WRITE: {(me, there)},
-        MAP_READ: {(there, me)},
-        MAP_BOTH: {(there, me), (me, there)},
-        FORK: {(me, process_container(call.a))},
-        LABEL: {(None, call.a)},
+        Kind.READ: {(there, me)},
+        Kind.WRITE: {(me, there)},
+        Kind.MAP_READ: {(there, me)},
+        Kind.MAP_BOTH: {(there, me), (me, there)},
+        Kind.FORK: {(me, process_container(call.a))},
+        Kind.LABEL: {(None, call.a)},
     }
     return table.get(call.kind, set())
 
@@ -79,7 +79,7 @@ def hop_fault(steps: List[Step], hop: Origin, item: int) -> str:
     )
     if (hop.giver, hop.path[0]) not in pairs:
         return f"record {hop.record} gives nothing from {hop.giver} to {hop.path[0]}"
-    if hop.giver is None and (call.kind, call.b) != (LABEL, item):
+    if hop.giver is None and (call.kind, call.b) != (Kind.LABEL, item):
         return f"record {hop.record} is no label of item {item}"
     if hop.giver is not None and item not in before.items[hop.giver]:
         return f"container {hop.giver} did not hold item {item} before record {hop.record}"
@@ -179,9 +179,9 @@ def other_values(test: Any, choices: Choices) -> List[int]:
     return [value for value in near if value in range(256) and value not in test.values]
 
 
-def advice_faults(case: Case, refusal: Refusal, choices: Choices) -> Iterator[str]:
+def advice_faults(case: Case, reason: Reason, choices: Choices) -> Iterator[str]:
     """Whether what a refusal says would pass does pass, and nothing else does."""
-    failed = refusal.failed
+    failed = reason.failed
     if case.record is None or not all(test.values for test in failed):
         return
     for test in failed:
@@ -190,7 +190,7 @@ def advice_faults(case: Case, refusal: Refusal, choices: Choices) -> Iterator[st
             for other in failed:
                 record = replaced(record, other.field, other.values[0])
             record = replaced(record, test.field, test.values[value])
-            if min(numbers_of(case.state, record), default=99) <= refusal.number:
+            if min(numbers_of(case.state, record), default=99) <= reason.number:
                 yield f"{record} for {test.text} is refused with {numbers_of(case.state, record)}"
         for value in other_values(test, choices):
             if not numbers_of(case.state, replaced(case.record, test.field, value)):
@@ -200,14 +200,14 @@ def advice_faults(case: Case, refusal: Refusal, choices: Choices) -> Iterator[st
 def refusal_faults(step: Step, said: Explanation, choices: Choices) -> Iterator[str]:
     """Whether a refusal is taken apart rightly."""
     case = Case(Words(), step.before.state, step.data, step.record)
-    refusal: Optional[Refusal] = refusal_of(case, step.answer.numbers[0])
-    last = refusal
-    while refusal is not None:
-        if not refusal.failed:
-            yield f"record {step.number}: no test fails for {refusal.number}"
-        for fault in advice_faults(case, refusal, choices):
+    reason: Optional[Reason] = reason_of(case, step.answer.numbers[0])
+    last = reason
+    while reason is not None:
+        if not reason.failed:
+            yield f"record {step.number}: no test fails for {reason.number}"
+        for fault in advice_faults(case, reason, choices):
             yield f"record {step.number}: {fault}"
-        case, last, refusal = case._replace(record=refusal.mended), refusal, refusal.then
+        case, last, reason = case._replace(record=reason.mended), reason, reason.then
     offered = last.mended is not None and answer_to(step, last.mended).word in ("allow", "rule")
     shown = [text for _, text in said.why if text.startswith(OFFER)]
     if offered != bool(shown):
@@ -222,9 +222,28 @@ def refusal_faults(step: Step, said: Explanation, choices: Choices) -> Iterator[
 OFFER = "in its place this gets "
 
 # By kind, the fields that name something new, which may have another number, and those not used.
-NEW = {1: "p", 2: "b", 3: "abc", 4: "abc", 5: "a", 6: "b", 16: "b", 17: "a"}
-UNUSED = {1: "abc", 2: "c", 5: "c", 6: "c", **dict.fromkeys(range(7, 15), "bc"), 15: "c", 16: "c"}
-UNUSED.update({17: "bc", 18: "abc", 19: "pc"})
+NEW = {
+    Kind.START: "p",
+    Kind.OPEN: "b",
+    Kind.CREATE: "abc",
+    Kind.PIPE: "abc",
+    Kind.DEVICE: "a",
+    Kind.DUP: "b",
+    Kind.LINK: "b",
+    Kind.FORK: "a",
+}
+UNUSED = {
+    Kind.START: "abc",
+    Kind.OPEN: "c",
+    Kind.DEVICE: "c",
+    Kind.DUP: "c",
+    **dict.fromkeys(range(Kind.CLOSE, Kind.UNLINK + 1), "bc"),
+    Kind.RENAME: "c",
+    Kind.LINK: "c",
+    Kind.FORK: "bc",
+    Kind.EXIT: "abc",
+    Kind.LABEL: "pc",
+}
 
 
 def answer_to(step: Step, record: Any) -> tracker.Answer:
@@ -259,7 +278,7 @@ def rule_fault(step: Step, offered: Rule) -> str:
 
 def forbidden(rule: Rule) -> Set[int]:
     """The containers that a rule forbids its item."""
-    return set(rule.containers) if rule.tag == DENY_TAG else {*CONTAINERS} - rule.containers
+    return set(rule.containers) if rule.tag == FORBID_TAG else {*CONTAINERS} - rule.containers
 
 
 def offer_faults(step: Step, text: str) -> Iterator[str]:
@@ -324,7 +343,7 @@ def picture_faults(steps: List[Step], at: int) -> Iterator[str]:
     given = (
         {} if step is None or step.answer.word != "allow" else gives(step.record, step.before.state)
     )
-    inner = {pair for pair in given if pair[0] is not None and step.record.kind != FORK}
+    inner = {pair for pair in given if pair[0] is not None and step.record.kind != Kind.FORK}
     if step is not None and step.answer.word == "allow" and drawing.drawn_moves(svg) != inner:
         yield f"at {at}: what the call moved"
     for fault in drawing.layout_faults(svg):
@@ -402,7 +421,7 @@ def check_counts(session: Session, counts: Counter) -> None:
         session.say("fewer than 500 logs: how often each answer occurs is not checked")
         return
     names = [*WORDS, *(f"kind {kind}" for kind in KINDS)]
-    names += [f"refused {number}" for number in range(CUT_SHORT, BROKEN_ALREADY + 1)]
+    names += [f"refused {number}" for number in RECORD_REFUSALS]
     for name in names:
         session.checks.true(f"random logs: {name}", counts[name] >= 20, f"{counts[name]} times")
     session.checks.true("random logs: hops", counts["hops"] > 2000, str(counts["hops"]))

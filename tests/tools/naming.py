@@ -4,10 +4,10 @@ import os
 import tempfile
 from pathlib import Path
 
-from session import LOGS, STORIES, Session, logtool, story_names
-from logtext import BadLine
-from names import beside, read_names
-from words import Words
+from model.logtext import BadLine
+from tests.tools.session import LOGS, STORIES, Session, logtool, story_names
+from tools.names import beside, read_names
+from tools.words import Words
 
 GOOD = """\ufeff# a comment
 container 24 = beat  buffer   # and another

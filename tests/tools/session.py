@@ -5,19 +5,16 @@ import sys
 import time
 from importlib.machinery import SourceFileLoader
 from importlib.util import module_from_spec, spec_from_loader
-from pathlib import Path
 from types import ModuleType
 from typing import List, NamedTuple, Optional, Tuple
 from unittest import mock
 
-ROOT = Path(__file__).resolve().parent.parent.parent
-sys.path[:0] = [str(ROOT / part) for part in ("model", "tools", "tests/logtests")]
-
-from checks import Checks  # noqa: E402
-from logfiles import run_command  # noqa: E402
-from logtext import assemble  # noqa: E402
-from names import Own, read_names  # noqa: E402
-from provenance import Step, steps_of  # noqa: E402
+from model import ROOT
+from model.checks import Checks
+from model.logfiles import run_command
+from model.logtext import assemble
+from tools.names import Own, read_names
+from tools.provenance import Step, steps_of
 
 LOGS = ROOT / "logs"
 STORIES = ("rowers", "evaluation", "run-b")

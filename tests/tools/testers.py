@@ -9,7 +9,8 @@ from contextlib import contextmanager
 from pathlib import Path
 from typing import Iterator, List, NamedTuple
 
-from session import ROOT, Session
+from model import ROOT
+from tests.tools.session import Session
 
 PAGE = ROOT / "docs" / "TESTERS.md"
 README = ROOT / "README.md"

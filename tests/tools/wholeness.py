@@ -7,9 +7,9 @@ import tempfile
 from pathlib import Path
 from unittest import mock
 
-from session import LOGS, Session, story_log
-from commands import UNBUFFERED, Ran, command_words, environment, run
-from logfiles import BadInput, write_file
+from model.logfiles import BadInput, write_file
+from tests.tools.commands import UNBUFFERED, Ran, command_words, environment, run
+from tests.tools.session import LOGS, Session, story_log
 
 STORY = LOGS / "rowers.log.txt"
 NOT_WRITTEN = 5

@@ -4,18 +4,11 @@ import re
 from typing import Any, Callable, Dict, List, Tuple
 from unittest import mock
 
-from session import Session
-import boxes
-import changes
-import draw
-import explain
-import manylogs
-import page
-import provenance
-import reasons
-import views
-from limits import DESCRIPTORS, MISSING, TAKEN
-from reasons import TESTS
+from model.limits import DESCRIPTORS, Refusal
+from tests.tools import manylogs
+from tests.tools.session import Session
+from tools import boxes, changes, draw, explain, page, provenance, reasons, views
+from tools.reasons import WORDINGS
 
 LOGS = 60  # within which each must be found
 RARE = {"offers what is stopped": 100}  # but for these
@@ -97,15 +90,20 @@ def crowds(right: Callable) -> Callable:
 
 def fewer_values(right: Callable) -> Callable:
     """The last value that would pass is left out."""
-    return lambda case: [test._replace(values=test.values[:-1]) for test in right(case)]
+
+    def fewer(*given: Any) -> Any:
+        test = right(*given)
+        return test._replace(values=test.values[:-1])
+
+    return fewer
 
 
 def any_descriptor(right: Callable) -> Callable:
     """Any descriptor is said to pass."""
 
-    def missing(case: Any) -> List:
-        tests = right(case)
-        return [t._replace(values=DESCRIPTORS) if "closed" in t.text else t for t in tests]
+    def missing(*given: Any) -> Any:
+        test = right(*given)
+        return test._replace(values=DESCRIPTORS) if "closed" in test.text else test
 
     return missing
 
@@ -127,9 +125,9 @@ WRONG: Dict[str, Tuple[Any, str, Maker]] = {
     "keeps groups of a page": (page, "difference", misses_groups),
     "draws boxes over each other": (draw, "make_plan", crowds),
 }
-WRONG_TESTS: Dict[str, Tuple[int, Maker]] = {
-    "leaves out what would pass": (TAKEN, fewer_values),
-    "names what would not pass": (MISSING, any_descriptor),
+WRONG_WORDINGS: Dict[str, Tuple[Refusal, Maker]] = {
+    "leaves out what would pass": (Refusal.TAKEN, fewer_values),
+    "names what would not pass": (Refusal.MISSING, any_descriptor),
 }
 
 
@@ -149,6 +147,6 @@ def test_wrong_tools(session: Session) -> None:
     for name, (place, attribute, make) in WRONG.items():
         with mock.patch.object(place, attribute, make(getattr(place, attribute))):
             session.checks.true(f"found: a tool that {name}", is_found(name))
-    for name, (number, make) in WRONG_TESTS.items():
-        with mock.patch.dict(TESTS, {number: make(TESTS[number])}):
+    for name, (number, make) in WRONG_WORDINGS.items():
+        with mock.patch.dict(WORDINGS, {number: make(WORDINGS[number])}):
             session.checks.true(f"found: a tool that {name}", is_found(name))

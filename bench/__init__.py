@@ -1,0 +1,1 @@
+"""What calls and records cost, beside a program without proofs."""

@@ -1,0 +1,1 @@
+"""The tests of the parts beside the proof."""

@@ -1,0 +1,1 @@
+"""The parts of tests/runlog: a log program beside the model."""

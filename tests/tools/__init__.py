@@ -1,0 +1,1 @@
+"""The parts of tests/tools/run: explain, draw and the other tools."""

@@ -1,0 +1,1 @@
+"""Logs as readable text, explained and drawn."""
