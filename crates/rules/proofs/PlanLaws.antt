@@ -12,7 +12,8 @@ use Rattle.flow.proofs.Bools.{or-l, or-r}
 use Rattle.flow.proofs.TableLaws.{table-at}
 use Rattle.flow.proofs.Moves.{given-has}
 use Rattle.store.specs.declared.Plan.{Plan}
-use Rattle.rules.specs.Judging.{emptied, made, share, gets, keeps, Planned}
+use Rattle.store.specs.Maps.{cleared, itemsBy}
+use Rattle.rules.specs.Judging.{share, gets, keeps, Planned}
 
 module _ (s t : State) (plan : Plan) where
   pub planned-exactly : t .rules ≡ s .rules → plan .to < 2 ^ 64 → plan .to2 < 2 ^ 64
@@ -28,9 +29,9 @@ module _ (s t : State) (plan : Plan) where
       }
 
 -- ---- the items after a plan
-emptied-has : (l : List ℕ) (x v i : ℕ) → v < 64 → has (getD (emptied l x) v 0) i ≡ (has (getD l v 0) i && not (has x v))
-unfolding emptied
-emptied-has l x v i h = ap (λ (y : ℕ). has y i) (table-at 64 _ v 0 h) ∙ go (has x v)
+cleared-has : (l : List ℕ) (x v i : ℕ) → v < 64 → has (getD (cleared l x) v 0) i ≡ (has (getD l v 0) i && not (has x v))
+unfolding cleared
+cleared-has l x v i h = ap (λ (y : ℕ). has y i) (table-at 64 _ v 0 h) ∙ go (has x v)
   where
     go : (b : Bool) → has (elim b as (λ z. ℕ) [ true ↦ 0 | false ↦ getD l v 0 ]) i ≡ (has (getD l v 0) i && not b)
     go true = none-has i ∙ sym (and-comm (has (getD l v 0) i) false)
@@ -44,17 +45,17 @@ share-is x i to v = go (has x i)
     go true = sym (and-comm (has to v) true)
     go false = none-has v ∙ sym (and-comm (has to v) false)
 
-made-has : (l : List ℕ) (plan : Plan) (v i : ℕ) → v < 64 → has (getD (made l plan) v 0) i ≡ (keeps l plan v i || has (gets plan i) v)
-unfolding made keeps gets
+pub made-has : (l : List ℕ) (plan : Plan) (v i : ℕ) → v < 64 → has (getD (itemsBy l plan) v 0) i ≡ (keeps l plan v i || has (gets plan i) v)
+unfolding itemsBy keeps gets
 made-has l plan v i h =
-    let kept = emptied l (plan .empty) in
+    let kept = cleared l (plan .empty) in
     let first = share (plan .given) i (plan .to) in
     let second = share (plan .given2) i (plan .to2) in
     given-has (given kept (plan .to) (plan .given)) (plan .to2) (plan .given2) v i h
-    ∙ rw (given-has kept (plan .to) (plan .given) v i h, emptied-has l (plan .empty) v i h, union-has first second v, share-is (plan .given) i (plan .to) v, share-is (plan .given2) i (plan .to2) v)
+    ∙ rw (given-has kept (plan .to) (plan .given) v i h, cleared-has l (plan .empty) v i h, union-has first second v, share-is (plan .given) i (plan .to) v, share-is (plan .given2) i (plan .to2) v)
     (or-assoc (has (getD l v 0) i && not (has (plan .empty) v)) _ _)
 
 pub planned-made : (s : State) (tables : Tables) (plan : Plan) → plan .to < 2 ^ 64 → plan .to2 < 2 ^ 64
-    → Planned s (record { tables = tables; items = made (s .items) plan; rules = s .rules }) plan
+    → Planned s (record { tables = tables; items = itemsBy (s .items) plan; rules = s .rules }) plan
 unfolding holds itemsOf
 planned-made s tables plan h k = planned-exactly s _ plan refl h k (λ v i l. made-has (s .items) plan v i l)

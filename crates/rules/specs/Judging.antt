@@ -7,22 +7,14 @@ use mathlib.Core.Option.{Option, none, some}
 use lib.Dec.{eqb}
 use lib.ListN.{getD}
 use Rattle.sets.specs.Sets.{has, _∪_, _∩_}
-use Rattle.flow.specs.Lists.{table, someBelow}
+use Rattle.flow.specs.Lists.{someBelow}
 use Rattle.flow.specs.Box.{containerCount, Condition, forbid, separate, confine, Rule, State, holds}
-use Rattle.flow.specs.Links.{meets, given}
+use Rattle.flow.specs.Links.{meets}
 use Rattle.flow.specs.Rules.{Numbered}
 use Rattle.store.specs.declared.Plan.{Plan}
 use Rattle.rules.specs.Stored.{ruleAt, countOf}
 
 -- ---- a plan
--- the items with those of every container of the set x taken out
-unfoldable pub emptied : List ℕ → ℕ → List ℕ
-emptied items x = table containerCount (λ v. elim (has x v) [ true ↦ 0 | false ↦ getD items v 0 ])
-
--- the items after the plan
-unfoldable pub made : List ℕ → Plan → List ℕ
-made items plan = given (given (emptied items (plan .empty)) (plan .to) (plan .given)) (plan .to2) (plan .given2)
-
 -- the set to where the set x has item i, else the empty set
 unfoldable pub share : ℕ → ℕ → ℕ → ℕ
 share x i to = elim (has x i) [ true ↦ to | false ↦ 0 ]

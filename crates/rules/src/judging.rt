@@ -1,18 +1,19 @@
 // Whether a planned call breaks rules that were whole, by the items before it (document 01, What a record gets).
 ghost use mathlib.Core.Path.{_≡_};
-ghost use Prim.Native.Nat.{_<_};
-ghost use lib.ListN.{length};
 ghost use Rattle.sets.specs.Sets.{has as hasOf};
-ghost use Rattle.flow.specs.Box.{containerCount, separate};
+ghost use Rattle.flow.specs.Box.{separate};
 ghost use Rattle.flow.specs.Records.{conditionOf};
+ghost use Rattle.store.specs.Maps.{itemsIn};
 ghost use Rattle.rules.specs.Judging.{share as shareOf, gets as getsOf, keeps as keepsOf, someKeeps, breaksAnew, touches as touchesOf, firstAnew};
-use store::Plan;
 use crate::stored::FIELDS_EACH;
 use crate::stored::FORBID_TAG;
 use crate::stored::ITEM_FIELD;
 use crate::stored::SEPARATE_TAG;
 use crate::stored::TAG_FIELD;
 use crate::stored::count;
+use store::Plan;
+use store::lookups::items;
+use store::numbers::Container;
 
 // Whether i is a member of x; no number from 64 on is.
 pub fn has(x: u64, i: u64) -> bool
@@ -42,22 +43,20 @@ fn gets(plan: Plan, i: u64) -> u64
 }
 
 // Whether container v held item i and is not emptied.
-fn keeps(items: &[u64], plan: Plan, v: u8, i: u64) -> bool
-    requires { ⌜ (length (now items) ≡ containerCount) × (v < containerCount) ⌝ }
-    ensures { λ r. ⌜ r ≡ keepsOf (now (items .entry)) plan v i ⌝ }
+fn keeps(words: &[u64; 97], plan: Plan, v: u8, i: u64) -> bool
+    ensures { λ r. ⌜ r ≡ keepsOf (itemsIn (now (words .entry))) plan v i ⌝ }
 {
-    has(items[v as usize], i) & !has(plan.empty, v as u64)
+    has(items(words, Container(v)), i) & !has(plan.empty, v as u64)
 }
 
 // Whether some container of the set keeps item i.
-fn some_keeps(items: &[u64], plan: Plan, set: u64, i: u64) -> bool
-    requires { ⌜ length (now items) ≡ containerCount ⌝ }
-    ensures { λ r. ⌜ r ≡ someKeeps (now (items .entry)) plan set i ⌝ }
+fn some_keeps(words: &[u64; 97], plan: Plan, set: u64, i: u64) -> bool
+    ensures { λ r. ⌜ r ≡ someKeeps (itemsIn (now (words .entry))) plan set i ⌝ }
 {
     let mut left = set;
     while left != 0 {
         let v = sets::lowest(left) as u8;
-        if keeps(items, plan, v, i) {
+        if keeps(words, plan, v, i) {
             return true;
         }
         left = sets::without(left, v);
@@ -66,16 +65,15 @@ fn some_keeps(items: &[u64], plan: Plan, set: u64, i: u64) -> bool
 }
 
 // Whether the plan brings items i and j together.
-fn joins(items: &[u64], plan: Plan, i: u64, j: u64) -> bool
-    requires { ⌜ length (now items) ≡ containerCount ⌝ }
-    ensures { λ r. ⌜ r ≡ breaksAnew (now (items .entry)) plan (separate i j) ⌝ }
+fn joins(words: &[u64; 97], plan: Plan, i: u64, j: u64) -> bool
+    ensures { λ r. ⌜ r ≡ breaksAnew (itemsIn (now (words .entry))) plan (separate i j) ⌝ }
 {
     let x = gets(plan, i);
     let y = gets(plan, j);
     if x & y != 0 {
         return true;
     }
-    some_keeps(items, plan, x, j) | some_keeps(items, plan, y, i)
+    some_keeps(words, plan, x, j) | some_keeps(words, plan, y, i)
 }
 
 // Whether the condition speaks of an item of the set x.
@@ -92,16 +90,15 @@ fn touches(x: u64, tag: u8, item: u8, set: u64) -> bool
 }
 
 // Whether the plan breaks a condition that was whole. It breaks none whose items are not given.
-fn breaks_anew(items: &[u64], plan: Plan, tag: u8, item: u8, set: u64) -> bool
-    requires { ⌜ length (now items) ≡ containerCount ⌝ }
-    ensures { λ r. ⌜ r ≡ breaksAnew (now (items .entry)) plan (conditionOf tag item set) ⌝ }
+fn breaks_anew(words: &[u64; 97], plan: Plan, tag: u8, item: u8, set: u64) -> bool
+    ensures { λ r. ⌜ r ≡ breaksAnew (itemsIn (now (words .entry))) plan (conditionOf tag item set) ⌝ }
 {
     if !touches(plan.given | plan.given2, tag, item, set) {
         return false;
     }
     let i = item as u64;
     if tag == SEPARATE_TAG {
-        return joins(items, plan, i, set);
+        return joins(words, plan, i, set);
     }
     let x = gets(plan, i);
     if tag == FORBID_TAG {
@@ -111,9 +108,8 @@ fn breaks_anew(items: &[u64], plan: Plan, tag: u8, item: u8, set: u64) -> bool
 }
 
 // The first rule that the plan breaks anew, and the number of rules where it breaks none.
-pub fn judge(items: &[u64], plan: Plan, sets: &[u64; 32], fields: &[u8; 129]) -> u8
-    requires { ⌜ length (now items) ≡ containerCount ⌝ }
-    ensures { λ r. ⌜ r ≡ firstAnew (now (items .entry)) plan (now (sets .entry)) (now (fields .entry)) ⌝ }
+pub fn judge(words: &[u64; 97], plan: Plan, sets: &[u64; 32], fields: &[u8; 129]) -> u8
+    ensures { λ r. ⌜ r ≡ firstAnew (itemsIn (now (words .entry))) plan (now (sets .entry)) (now (fields .entry)) ⌝ }
 {
     let end = count(fields);
     if plan.given | plan.given2 == 0 {
@@ -124,7 +120,7 @@ pub fn judge(items: &[u64], plan: Plan, sets: &[u64; 32], fields: &[u8; 129]) ->
         let i = k as usize;
         let at = FIELDS_EACH * i;
         if breaks_anew(
-            items,
+            words,
             plan,
             fields[at + TAG_FIELD],
             fields[at + ITEM_FIELD],

@@ -1,9 +1,8 @@
 // A rule's fields: refusals 4, 5 and 9; whether the present state breaks it: refusal 12 (document 01, What a record gets).
 ghost use mathlib.Core.Path.{_≡_};
-ghost use lib.ListN.{length};
-ghost use Rattle.flow.specs.Box.{containerCount};
 ghost use Rattle.flow.specs.Lists.{refusalFrom, firstThat};
 ghost use Rattle.flow.specs.Refusals.{itemsFit, substituteFits, sameItems, fieldTests};
+ghost use Rattle.store.specs.Maps.{itemsIn};
 ghost use Rattle.rules.specs.Stored.{conditionFrom, ruleFrom};
 ghost use Rattle.rules.specs.Judging.{breaksWith, brokenIn};
 use crate::RuleFields;
@@ -12,6 +11,8 @@ use crate::stored::CONTAINER_COUNT;
 use crate::stored::FORBID_TAG;
 use crate::stored::ITEM_COUNT;
 use crate::stored::SEPARATE_TAG;
+use store::lookups::items;
+use store::numbers::Container;
 
 const DEVICE_COUNT: u8 = 8;
 
@@ -80,12 +81,11 @@ fn breaks_with(x: u64, rule: RuleFields, c: u8) -> bool
 }
 
 // Whether the items break the rule.
-pub fn breaks_now(items: &[u64], rule: RuleFields) -> bool
-    requires { ⌜ length (now items) ≡ containerCount ⌝ }
-    ensures { λ r. ⌜ r ≡ brokenIn (now (items .entry)) (conditionFrom rule) ⌝ }
+pub fn breaks_now(words: &[u64; 97], rule: RuleFields) -> bool
+    ensures { λ r. ⌜ r ≡ brokenIn (itemsIn (now (words .entry))) (conditionFrom rule) ⌝ }
 {
     for c in 0..CONTAINER_COUNT {
-        if breaks_with(items[c as usize], rule, c) {
+        if breaks_with(items(words, Container(c)), rule, c) {
             return true;
         }
     }

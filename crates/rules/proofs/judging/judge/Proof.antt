@@ -2,9 +2,9 @@
 use Prim.Native.Nat.{_-_, _≤_}
 use native.Mathlib.Omega.{arith}
 use mathlib.Core.Path.{_≡_, sym, _∙_}
-use lib.ListN.{length}
 use borrow.Author.Needs.{needs}
 use Rattle.sets.specs.Sets.{_∪_}
+use Rattle.store.specs.Maps.{itemsIn}
 use Rattle.rules.specs.Stored.{ruleAt, conditionAt, countOf}
 use Rattle.rules.specs.Judging.{breaksAnew, firstAnew}
 use Rattle.rules.proofs.Searching.{Seek, seek-start, seek-hit, seek-miss, seek-end}
@@ -14,11 +14,11 @@ use Rattle.rules.proofs.judging.judge.Statement.{statement}
 use Rattle.rules.proofs.judging.judge.Tie as tie
 
 abbrev Inv-loop : tie.InvT-loop
-Inv-loop items plan sets fields end k₀ k =
-    (length items ≡ 64) × (end ≤ 32) × (end ≡ countOf fields) × Seek (λ j. breaksAnew items plan (ruleAt sets fields j .condition)) (countOf fields) k
+Inv-loop words plan sets fields end k₀ k =
+    (end ≤ 32) × (end ≡ countOf fields) × Seek (λ j. breaksAnew (itemsIn words) plan (ruleAt sets fields j .condition)) (countOf fields) k
 
 abbrev μ-loop : tie.MeasureT-loop
-μ-loop items plan sets fields end k₀ k = end - k
+μ-loop words plan sets fields end k₀ k = end - k
 
 count-requires : tie.Need-count-requires Inv-loop μ-loop
 count-requires c κs = search needs
@@ -30,7 +30,7 @@ returns c = nothing-given _ (c .if1 .taken) _ _ _ _ (c .before .before .count .e
 loop-holds : tie.Need-loop-holds Inv-loop μ-loop
 loop-holds c =
     let e = c .before .before .count .ensures in
-    (c .before .before .before .before .pre, rw e (count-le _), e, seek-start _ _)
+    (rw e (count-le _), e, seek-start _ _)
 
 cast-i : tie.Need-cast-i Inv-loop μ-loop
 cast-i c = search needs
@@ -63,7 +63,7 @@ returns-2 : tie.Need-returns-2 Inv-loop μ-loop
 unfolding firstAnew conditionAt
 returns-2 c =
     let b = c .before .before .before .before .before .before in
-    seek-hit (b .loop .inv .3) (omega arith) (sym (c .before .breaks-anew .ensures) ∙ c .if2 .taken)
+    seek-hit (b .loop .inv .2) (omega arith) (sym (c .before .breaks-anew .ensures) ∙ c .if2 .taken)
 
 add-k : tie.Need-add-k Inv-loop μ-loop
 add-k c = search needs
@@ -75,11 +75,11 @@ loop-again : tie.Need-loop-again Inv-loop μ-loop
 unfolding conditionAt
 loop-again c =
     let b = c .before .before .before .before .before .before in
-    (b .loop .inv .0, b .loop .inv .1, b .loop .inv .2, seek-miss (b .loop .inv .3) (omega arith) (sym (c .before .breaks-anew .ensures) ∙ c .if2 .left))
+    (b .loop .inv .0, b .loop .inv .1, seek-miss (b .loop .inv .2) (omega arith) (sym (c .before .breaks-anew .ensures) ∙ c .if2 .left))
 
 returns-3 : tie.Need-returns-3 Inv-loop μ-loop
 unfolding firstAnew
-returns-3 c = c .before .loop .inv .2 ∙ seek-end (c .before .loop .inv .3) (omega arith)
+returns-3 c = c .before .loop .inv .1 ∙ seek-end (c .before .loop .inv .2) (omega arith)
 
 pub judge-spec : {M : Type 1} → statement M
 judge-spec =

@@ -6,11 +6,8 @@ use borrow.Author.Needs.{needs}
 use Rattle.rules.proofs.judging.keeps.Statement.{statement}
 use Rattle.rules.proofs.judging.keeps.Tie as tie
 
-mul-has : tie.Need-mul-has
-mul-has c = search needs
-
-shared-slice-read-has : tie.Need-shared-slice-read-has
-shared-slice-read-has c = search needs
+items-requires : tie.Need-items-requires
+items-requires c κs = search needs
 
 has-requires : tie.Need-has-requires
 has-requires c κs = search needs
@@ -20,7 +17,10 @@ has-requires-2 c κs = search needs
 
 returns : tie.Need-returns
 unfolding keeps
-returns c = ap₂ (λ (a b : Bool). a && not b) (c .before .has .ensures) (c .has2 .ensures)
+returns c =
+    let c1 = c .before in
+    let c2 = c1 .before in
+    ap₂ (λ (a b : Bool). a && not b) (rw (c2 .items .ensures) at (c1 .has .ensures)) (c .has2 .ensures)
 
 pub keeps-spec : {M : Type 1} → statement M
-keeps-spec = tie.close (tie.spec mul-has shared-slice-read-has has-requires has-requires-2 returns)
+keeps-spec = tie.close (tie.spec items-requires has-requires has-requires-2 returns)
