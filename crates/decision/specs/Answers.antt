@@ -68,3 +68,4 @@ pub record AnswersStopped (m : Monitor) (q : Call) (k : ℕ) (r : Answered) : Ty
   pub inhibited-kept : (n : ℕ) → r .answer ≡ Inhibit n → r .monitor ≡ m
   pub answer : Sound m → wordOf (r .answer) ≡ answerOf (stopped (view m) q k (ruleAt (m .sets) (m .fields) k))
   pub state : Sound m → view (r .monitor) ≡ stateAfter (view m) (stopped (view m) q k (ruleAt (m .sets) (m .fields) k))
+  pub sound : Sound m → Sound (r .monitor)

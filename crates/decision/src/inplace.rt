@@ -19,6 +19,7 @@ use store::cells::make_items;
 use store::lookups::in_use;
 use store::lookups::items;
 use store::numbers::Container;
+use store::sizes;
 use store::spread::reach;
 use tracker::Call;
 use tracker::Tracker;
@@ -76,6 +77,7 @@ fn stop_in(
     requires { ⌜ (k < ruleCount) × Passes (now words) (now descriptors) (now names) q ⌝ }
     ensures { λ r. ⌜ ((x : Asked) → callIn q ≡ some x → AnswersStopped (monitor (now (words .entry)) (now (descriptors .entry)) (now (names .entry)) (now (sets .entry)) (now (fields .entry))) x k (record { answer = r; monitor = monitor (now (words .exit)) (now (descriptors .entry)) (now (names .entry)) (now (sets .entry)) (now (fields .entry)) })) ⌝ }
 {
+    sizes(words, names);
     let diverts = stored::action(fields, k) == DIVERT;
     if !(diverts & (q.kind == WRITE)) {
         return Answer::Inhibit(k);
@@ -104,6 +106,7 @@ pub fn call_in(
 ) -> Answer
     ensures { λ r. ⌜ Answers (monitor (now (words .entry)) (now (descriptors .entry)) (now (names .entry)) (now (sets .entry)) (now (fields .entry))) (aCall (callIn q)) (record { answer = r; monitor = monitor (now (words .exit)) (now (descriptors .exit)) (now (names .exit)) (now (sets .entry)) (now (fields .entry)) }) ⌝ }
 {
+    sizes(words, names);
     let n = refusal(words, descriptors, names, q);
     if n != 0 {
         return Answer::Refused(n);
@@ -181,18 +184,21 @@ pub fn answer_in(
                 substitute,
             },
         ),
-        Record::Separate(item, other, action, substitute) => load_in(
-            words,
-            sets,
-            fields,
-            RuleFields {
-                tag: SEPARATE_TAG,
-                item,
-                set: other as u64,
-                action,
-                substitute,
-            },
-        ),
+        Record::Separate(item, other, action, substitute) => {
+            let set = other as u64;
+            load_in(
+                words,
+                sets,
+                fields,
+                RuleFields {
+                    tag: SEPARATE_TAG,
+                    item,
+                    set,
+                    action,
+                    substitute,
+                },
+            )
+        },
         Record::Confine(item, set, action, substitute) => load_in(
             words,
             sets,

@@ -63,6 +63,12 @@ firstFrom (suc n) k f = elim (f k) [ true ↦ k | false ↦ firstFrom n (suc k) 
 unfoldable pub firstAnew : List ℕ → Plan → List ℕ → List ℕ → ℕ
 firstAnew items plan sets fields = firstFrom (countOf fields) 0 (λ k. breaksAnew items plan (ruleAt sets fields k .condition))
 
+-- the number that judging answers; the plan's sets are of containers
+pub record Judged (items : List ℕ) (plan : Plan) (sets fields : List ℕ) (r : ℕ) : Type 0 where
+  pub small : plan .to < 2 ^ 64
+  pub small2 : plan .to2 < 2 ^ 64
+  pub number : r ≡ firstAnew items plan sets fields
+
 -- rule number m of n, and none where m is n
 unfoldable pub found : ℕ → (ℕ → Rule) → ℕ → Option Numbered
 found n rule m = elim (eqb m n) [ true ↦ none | false ↦ some (record { number = m; rule = rule m }) ]

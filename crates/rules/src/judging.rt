@@ -1,10 +1,11 @@
 // Whether a planned call breaks rules that were whole, by the items before it (document 01, What a record gets).
+ghost use Prim.Native.Nat.{_<_, _^_};
 ghost use mathlib.Core.Path.{_≡_};
 ghost use Rattle.sets.specs.Sets.{has as hasOf};
 ghost use Rattle.flow.specs.Box.{separate};
 ghost use Rattle.flow.specs.Records.{conditionOf};
 ghost use Rattle.store.specs.Maps.{itemsIn};
-ghost use Rattle.rules.specs.Judging.{share as shareOf, gets as getsOf, keeps as keepsOf, someKeeps, breaksAnew, touches as touchesOf, firstAnew};
+ghost use Rattle.rules.specs.Judging.{share as shareOf, gets as getsOf, keeps as keepsOf, someKeeps, breaksAnew, touches as touchesOf, Judged};
 use crate::stored::FIELDS_EACH;
 use crate::stored::FORBID_TAG;
 use crate::stored::ITEM_FIELD;
@@ -107,10 +108,16 @@ fn breaks_anew(words: &[u64; 97], plan: Plan, tag: u8, item: u8, set: u64) -> bo
     x & set != x
 }
 
+// What their type says of two sets, for the proofs: nothing is done.
+fn bounded(x: u64, y: u64)
+    ensures { λ _. ⌜ (x < 2 ^ 64) × (y < 2 ^ 64) ⌝ }
+{}
+
 // The first rule that the plan breaks anew, and the number of rules where it breaks none.
 pub fn judge(words: &[u64; 97], plan: Plan, sets: &[u64; 32], fields: &[u8; 129]) -> u8
-    ensures { λ r. ⌜ r ≡ firstAnew (itemsIn (now (words .entry))) plan (now (sets .entry)) (now (fields .entry)) ⌝ }
+    ensures { λ r. ⌜ Judged (itemsIn (now (words .entry))) plan (now (sets .entry)) (now (fields .entry)) r ⌝ }
 {
+    bounded(plan.to, plan.to2);
     let end = count(fields);
     if plan.given | plan.given2 == 0 {
         return end;

@@ -17,3 +17,6 @@ pub struct Plan {
     pub given2: u64,
     pub to2: u64,
 }
+
+// As slices the arrays have their lengths, which the proofs use. Nothing is done.
+pub fn sizes(words: &[u64], names: &[u8]) {}

@@ -2,32 +2,35 @@
 use Prim.Native.Nat.{ℕ, zero, suc, _<_}
 use native.Mathlib.Omega.{arith}
 use mathlib.Core.Path.{_≡_, refl, sym, ap, ap₂, _∙_}
-use mathlib.Core.Bool.{Bool, true, false, not, _&&_}
+use mathlib.Core.Bool.{Bool, true, false, not, _&&_, _||_, and-comm}
 use mathlib.Core.List.{List}
 use mathlib.Core.Option.{Option, none, some}
 use lib.Dec.{eqb}
 use lib.Bits.{or-zero-l}
 use lib.ListN.{length, getD}
 use lib.Seq.{ext-getD}
+use borrow.Author.Tests.{ltb-true, eqb-true}
 use Rattle.sets.specs.Sets.{has, only, those, _∪_}
-use Rattle.sets.proofs.Members.{those-has, none-has, only-has, eqb-sym}
+use Rattle.sets.proofs.Members.{those-has, none-has, only-has, union-has, eqb-sym}
 use Rattle.flow.specs.Lists.{firstThat, refusalFrom, table}
-use Rattle.flow.specs.Box.{Tables, descriptor}
+use Rattle.flow.specs.Box.{containerOf, Tables, descriptor}
 use Rattle.flow.specs.Links.{reach, given, isFed, used}
-use Rattle.flow.specs.Calls.{Kind, start, openName, create, pipe, device, dup, close, read, write, truncate, mapRead, mapBoth, unmap, unlink, rename, link, fork, exit, label, Call as Asked, Flow, still, gift, arrival, exchange, copy, clear, Change, tablesBy, flowBy, change, moved, ended, itemsAfter}
+use Rattle.flow.specs.Calls.{Kind, start, openName, create, pipe, device, dup, close, read, write, truncate, mapRead, mapBoth, unmap, unlink, rename, link, fork, exit, label, Call as Asked, Flow, still, gift, arrival, exchange, copy, clear, Change, withLive, withLinks, withDescriptors, tablesBy, flowBy, change, moved, ended, itemsAfter}
 use Rattle.flow.specs.Records.{kindOf, callBy, callFrom}
-use Rattle.flow.specs.Refusals.{callTests}
-use Rattle.flow.proofs.Bools.{by, no-both, chosen-r}
+use Rattle.flow.specs.Refusals.{ranges, inRange, callTests}
+use Rattle.flow.proofs.Bools.{or-elim, by, no-both, choice, chosen-r}
 use Rattle.flow.proofs.TableLaws.{table-at, table-length, is-table}
 use Rattle.flow.proofs.Moves.{given-at}
-use Rattle.flow.proofs.Accepted.{Accepted}
+use Rattle.flow.proofs.Rows.{now-live}
+use Rattle.flow.proofs.Use.{used-process}
+use Rattle.flow.proofs.Accepted.{Accepted, fits-a}
 use Rattle.store.specs.declared.Plan.{Plan}
 use Rattle.store.specs.Maps.{Maps, withTables, withItems, changed, view, cleared, itemsBy}
 use Rattle.store.proofs.Words.{by-length}
 use Rattle.tracker.specs.declared.Call.{Call}
 use Rattle.tracker.specs.Rows.{asked, callIn, tablesAt, Passes}
-use Rattle.tracker.specs.Plans.{planOf, planBy, planAt, freeSet, empties, gives, lostBy, lostAt, goneOf}
-use Rattle.tracker.specs.Worked.{Worked, done, mapsBy, worked}
+use Rattle.tracker.specs.Plans.{planOf, planBy, planAt, freeSet, empties, gives, heldBy, lostBy, lostAt, goneOf}
+use Rattle.tracker.specs.Worked.{Worked, done, mapsBy, worked, Foreseen}
 use Rattle.tracker.proofs.Facts.{fit-process, accepted}
 use Rattle.tracker.proofs.Ending.{Ends, ends}
 
@@ -121,6 +124,11 @@ lost-ended m x lost e =
         (λ h. rw (h, e .before c l h) refl)
         (λ h. by (used (m .tables) c) (λ u. rw (h, u, e .kept c l h u) refl) (λ u. rw (h, u) refl))
 
+-- where no use can end, nothing is gone
+none-gone : (t : Tables) (v : ℕ) → v < 64 → has (goneOf t 0) v ≡ false
+unfolding goneOf
+none-gone t v h = those-has _ v h ∙ ap (λ (b : Bool). b && not (used t v)) (none-has v)
+
 -- ---- a call that is not refused
 module _ (m : Maps) (long : length (m .items) ≡ 64) (lf : length (m .tables .feeders) ≡ 16) (lg : length (m .tables .fed) ≡ 16) (ln : length (m .tables .names) ≡ 128) (q : Call) where
   -- the items moved, then what is no longer in use emptied
@@ -149,6 +157,81 @@ module _ (m : Maps) (long : length (m .items) ≡ 64) (lf : length (m .tables .f
       → v ≡ withItems t (itemsBy (t .items) x) → w ≡ withItems v (cleared (v .items) (goneOf (v .tables) lost)) → w ≡ mapsBy m (callIn q) none
   unfolding callFrom
   made-call e = made-by (kindOf (q .kind)) e
+
+  -- ---- what the plan foresees
+  -- where nothing is given, nobody receives
+  nobody : (v : ℕ) {P : Type 0} → has (0 ∪ 0) v ≡ true → P
+  nobody v h = no-both h (union-has 0 0 v ∙ ap (λ (b : Bool). b || b) (none-has v))
+
+  abbrev tablesOf : Kind → Tables
+  tablesOf k = tablesBy (m .tables) (q .process) (q .a) (q .b) (q .c) k
+
+  abbrev planned : Kind → Plan
+  planned k = planBy m (q .process) (q .a) (q .b) (q .c) k
+
+  fork-stays : q .a < 16 → (v : ℕ) → v < 64 → has (only (containerOf (q .a)) ∪ 0) v ≡ true → has (goneOf (tablesOf fork) (heldBy (m .tables) (q .a))) v ≡ false
+  unfolding goneOf tablesBy withLive withLinks withDescriptors
+  fork-stays l v h r =
+      let e : eqb (containerOf (q .a)) v ≡ true = sym (only-has (containerOf (q .a)) v) ∙ or-elim (has (only (containerOf (q .a))) v) (has 0 v) (λ z. z) (λ z. no-both z (none-has v)) (sym (union-has (only (containerOf (q .a))) 0 v) ∙ r) in
+      let u : used (tablesOf fork) v ≡ true = rw (← (eqb-true (containerOf (q .a)) v e)) (used-process (tablesOf fork) (q .a) l ∙ now-live (m .tables .live) (q .a)) in
+      those-has _ v h ∙ rw u (and-comm (has (heldBy (m .tables) (q .a)) v) false)
+
+  stays : (k : Kind) → Accepted (m .tables) (asked q k) → (v : ℕ) → v < 64 → has (planned k .to ∪ planned k .to2) v ≡ true
+      → has (goneOf (tablesOf k) (lostBy (m .tables) (q .process) (q .a) (q .b) (q .c) k)) v ≡ false
+  unfolding planBy planOf flowBy lostBy ranges inRange
+  stays start h v l r = none-gone _ v l
+  stays openName h v l r = none-gone _ v l
+  stays create h v l r = none-gone _ v l
+  stays pipe h v l r = none-gone _ v l
+  stays device h v l r = none-gone _ v l
+  stays dup h v l r = none-gone _ v l
+  stays close h v l r = nobody v r
+  stays read h v l r = none-gone _ v l
+  stays write h v l r = none-gone _ v l
+  stays truncate h v l r = none-gone _ v l
+  stays mapRead h v l r = none-gone _ v l
+  stays mapBoth h v l r = none-gone _ v l
+  stays unmap h v l r = nobody v r
+  stays unlink h v l r = nobody v r
+  stays rename h v l r = nobody v r
+  stays link h v l r = none-gone _ v l
+  stays fork h v l r = fork-stays (ltb-true (q .a) 16 (fits-a (ranges fork) (asked q fork) (h .fits))) v l r
+  stays exit h v l r = nobody v r
+  stays label h v l r = none-gone _ v l
+
+  foreseen-by : (k : Kind) → Accepted (m .tables) (asked q k) → Foreseen (m .items) (itemsAfter (m .tables) (m .items) (change (m .tables) (asked q k))) (planned k)
+  unfolding planAt tablesAt lostAt cleared
+  foreseen-by k h =
+      let gone : ℕ = goneOf (tablesOf k) (lostBy (m .tables) (q .process) (q .a) (q .b) (q .c) k) in
+      let at : (v : ℕ) → v < 64 → getD (itemsAfter (m .tables) (m .items) (change (m .tables) (asked q k))) v 0 ≡ elim (has gone v) as (λ z. ℕ) [ true ↦ 0 | false ↦ getD (itemsBy (m .items) (planned k)) v 0 ] =
+      λ v l. ap (λ (x : List ℕ). getD x v 0) (sym (made k h)) ∙ table-at 64 _ v 0 l in
+      record {
+        less = λ v i l e. choice (λ x. has x i ≡ true → has (getD (itemsBy (m .items) (planned k)) v 0) i ≡ true) (has gone v) 0 _ (λ z f. no-both f (none-has i)) (λ z f. f) (ap (λ (x : ℕ). has x i) (sym (at v l)) ∙ e);
+        same = λ v l r. at v l ∙ chosen-r (has gone v) 0 _ (stays k h v l r);
+      }
+
+  foreseen-at : (o : Option Kind) (x : Asked) → callBy o (q .process) (q .a) (q .b) (q .c) ≡ some x → firstThat (callTests (m .tables) (callBy o (q .process) (q .a) (q .b) (q .c))) ≡ none
+      → Foreseen (m .items) (itemsAfter (m .tables) (m .items) (change (m .tables) x)) (planAt m q o)
+  unfolding callBy planAt
+  foreseen-at none x d g = absurd (let z : _≡_ {A = ℕ} 0 1 = cc in let y : ⊥ = omega arith in y)
+  foreseen-at (some k) x d g =
+      let e : asked q k ≡ x = cc in
+      rw (← e) (foreseen-by k (accepted (m .tables) q k g))
+
+  -- of a call that is not refused
+  pub foreseen : (x : Asked) → callIn q ≡ some x → firstThat (callTests (m .tables) (callIn q)) ≡ none
+      → Foreseen (m .items) (itemsAfter (m .tables) (m .items) (change (m .tables) x)) (planAt m q (kindOf (q .kind)))
+  unfolding callFrom
+  foreseen x e f = foreseen-at (kindOf (q .kind)) x e f
+
+-- a gift alone, where the tables stay, is its plan (01, What a record gets: a diverted write)
+pub gift-made : (m : Maps) → length (m .items) ≡ 64 → (g u : ℕ)
+    → itemsAfter (m .tables) (m .items) (record { tables = m .tables; flow = gift g u }) ≡ itemsBy (m .items) (gives (getD (m .items) g 0) (reach (m .tables) u))
+unfolding planOf cleared
+gift-made m long g u =
+    lost-ended m (record { tables = m .tables; flow = gift g u }) 0 (record { before = λ v hv h. no-both h (none-has v); kept = λ v hv h z. z })
+    ∙ sym (is-table 64 _ (moved (m .tables) (m .items) (gift g u)) (moved-length m long (gift g u)) (λ c h. sym (chosen-r (has (goneOf (m .tables) 0) c) 0 _ (none-gone (m .tables) c h))))
+    ∙ sym (moved-made m long (gift g u))
 
 -- ---- what `work` answers
 by-number : (m : Maps) (q : Option Asked) (n : ℕ) (o : Option ℕ) → refusalFrom n ≡ o → (n ≡ 0 → ⊥) → m ≡ mapsBy m q o

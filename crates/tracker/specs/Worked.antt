@@ -1,10 +1,17 @@
 -- What a call gets from the tracker: a refusal, or the maps after its change. No rule is judged here.
-use Prim.Native.Nat.{ℕ}
+use Prim.Native.Nat.{ℕ, _<_}
+use mathlib.Core.Path.{_≡_}
+use mathlib.Core.Bool.{true}
+use mathlib.Core.List.{List}
 use mathlib.Core.Option.{Option, none, some}
+use lib.ListN.{getD}
+use Rattle.sets.specs.Sets.{has, _∪_}
 use Rattle.flow.specs.Lists.{firstThat}
+use Rattle.flow.specs.Box.{containerCount}
 use Rattle.flow.specs.Calls.{Call, change}
 use Rattle.flow.specs.Refusals.{callTests}
-use Rattle.store.specs.Maps.{Maps, changed}
+use Rattle.store.specs.declared.Plan.{Plan}
+use Rattle.store.specs.Maps.{Maps, changed, itemsBy}
 
 pub record Worked : Type 0 where
   pub refusal : Option ℕ
@@ -21,3 +28,8 @@ done refusal m = record { refusal = refusal; maps = m }
 -- the tests of document 01's table decide; a call that none holds of makes its change
 unfoldable pub worked : Maps → Option Call → Worked
 worked m q = let refusal = firstThat (callTests (m .tables) q) in done refusal (mapsBy m q refusal)
+
+-- What a plan says of the items after a call, `after`: nothing is held there but by the plan, and what the plan gives to has what the plan says.
+pub record Foreseen (items after : List ℕ) (plan : Plan) : Type 0 where
+  pub less : (v i : ℕ) → v < containerCount → has (getD after v 0) i ≡ true → has (getD (itemsBy items plan) v 0) i ≡ true
+  pub same : (v : ℕ) → v < containerCount → has (plan .to ∪ plan .to2) v ≡ true → getD after v 0 ≡ getD (itemsBy items plan) v 0

@@ -7,6 +7,7 @@ use crate::rows;
 use crate::tables::change_tables;
 use store::Plan;
 use store::cells::make_items;
+use store::sizes;
 ghost use Prim.Native.Nat.{ℕ};
 ghost use mathlib.Core.Path.{_≡_};
 ghost use mathlib.Core.Option.{none};
@@ -17,9 +18,6 @@ ghost use Rattle.store.specs.Maps.{view};
 ghost use Rattle.tracker.specs.Rows.{callIn, Passes};
 ghost use Rattle.tracker.specs.Plans.{planAt};
 ghost use Rattle.tracker.specs.Worked.{done, worked, mapsBy};
-
-// As a slice the words have their length, which the proofs use. Nothing is done.
-fn sizes(words: &[u64], names: &[u8]) {}
 
 // Stores what a call that is not refused makes of the tables and, by its plan, of the items.
 pub fn make(

@@ -20,16 +20,23 @@ Inv-loop words plan sets fields end k₀ k =
 abbrev μ-loop : tie.MeasureT-loop
 μ-loop words plan sets fields end k₀ k = end - k
 
+bounded-requires : tie.Need-bounded-requires Inv-loop μ-loop
+bounded-requires c κs = search needs
+
 count-requires : tie.Need-count-requires Inv-loop μ-loop
 count-requires c κs = search needs
 
 returns : tie.Need-returns Inv-loop μ-loop
 unfolding _∪_
-returns c = nothing-given _ (c .if1 .taken) _ _ _ _ (c .before .before .count .ensures)
+returns c =
+    let c2 = c .before .before in
+    let c3 = c2 .before in
+    record { small = c3 .bounded .ensures .0; small2 = c3 .bounded .ensures .1; number = nothing-given _ (c .if1 .taken) _ _ _ _ (c2 .count .ensures) }
 
 loop-holds : tie.Need-loop-holds Inv-loop μ-loop
 loop-holds c =
-    let e = c .before .before .count .ensures in
+    let c2 = c .before .before in
+    let e = c2 .count .ensures in
     (rw e (count-le _), e, seek-start _ _)
 
 cast-i : tie.Need-cast-i Inv-loop μ-loop
@@ -62,8 +69,10 @@ breaks-anew-requires c κs = search needs
 returns-2 : tie.Need-returns-2 Inv-loop μ-loop
 unfolding firstAnew conditionAt
 returns-2 c =
-    let b = c .before .before .before .before .before .before in
-    seek-hit (b .loop .inv .2) (omega arith) (sym (c .before .breaks-anew .ensures) ∙ c .if2 .taken)
+    let c1 = c .before in
+    let c6 = c1 .before .before .before .before .before in
+    let c10 = c6 .before .before .before .before in
+    record { small = c10 .bounded .ensures .0; small2 = c10 .bounded .ensures .1; number = seek-hit (c6 .loop .inv .2) (omega arith) (sym (c1 .breaks-anew .ensures) ∙ c .if2 .taken) }
 
 add-k : tie.Need-add-k Inv-loop μ-loop
 add-k c = search needs
@@ -74,12 +83,16 @@ loop-less c = search needs
 loop-again : tie.Need-loop-again Inv-loop μ-loop
 unfolding conditionAt
 loop-again c =
-    let b = c .before .before .before .before .before .before in
-    (b .loop .inv .0, b .loop .inv .1, seek-miss (b .loop .inv .2) (omega arith) (sym (c .before .breaks-anew .ensures) ∙ c .if2 .left))
+    let c1 = c .before in
+    let c6 = c1 .before .before .before .before .before in
+    (c6 .loop .inv .0, c6 .loop .inv .1, seek-miss (c6 .loop .inv .2) (omega arith) (sym (c1 .breaks-anew .ensures) ∙ c .if2 .left))
 
 returns-3 : tie.Need-returns-3 Inv-loop μ-loop
 unfolding firstAnew
-returns-3 c = c .before .loop .inv .1 ∙ seek-end (c .before .loop .inv .2) (omega arith)
+returns-3 c =
+    let c1 = c .before in
+    let c5 = c1 .before .before .before .before in
+    record { small = c5 .bounded .ensures .0; small2 = c5 .bounded .ensures .1; number = c1 .loop .inv .1 ∙ seek-end (c1 .loop .inv .2) (omega arith) }
 
 pub judge-spec : {M : Type 1} → statement M
 judge-spec =
@@ -87,6 +100,7 @@ judge-spec =
     (tie.spec
     Inv-loop
     μ-loop
+    bounded-requires
     count-requires
     returns
     loop-holds

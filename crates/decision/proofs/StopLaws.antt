@@ -1,0 +1,83 @@
+-- A call that a rule stops: inhibited, or diverted to the substitute.
+use Prim.Native.Nat.{ℕ, _+_, _%_, _≤_, _<_}
+use native.Mathlib.Omega.{arith}
+use native.Mathlib.Nat.{mod-eq-of-lt}
+use mathlib.Core.Path.{_≡_, refl, sym, ap, ap₂, subst, _∙_}
+use mathlib.Core.Bool.{Bool, true, false, not, _&&_}
+use mathlib.Core.List.{List}
+use mathlib.Core.Option.{none, some}
+use lib.Dec.{eqb}
+use lib.ListN.{getD, length}
+use borrow.Author.Tests.{not-true, not-false}
+use Rattle.flow.specs.Box.{containerOf, Rule}
+use Rattle.flow.specs.Links.{reach, used}
+use Rattle.flow.specs.Calls.{Call, after}
+use Rattle.flow.specs.Verdicts.{diversion}
+use Rattle.store.specs.declared.Plan.{Plan}
+use Rattle.store.specs.Maps.{Maps, withItems, itemsIn, view as mapsOf, itemsBy}
+use Rattle.tracker.specs.declared.Call.{Call as Bytes}
+use Rattle.tracker.specs.Rows.{callIn}
+use Rattle.tracker.specs.Plans.{gives}
+use Rattle.tracker.specs.Worked.{Foreseen}
+use Rattle.rules.specs.Stored.{ruleAt, actionAt, substituteAt, countOf}
+use Rattle.rules.specs.Judging.{Judged}
+use Rattle.decision.specs.declared.Monitor.{Monitor}
+use Rattle.decision.specs.declared.Answer.the-variants.{Inhibit, Modify}
+use Rattle.decision.specs.View.{maps, monitor, view}
+use Rattle.decision.specs.Answers.{Sound, AnswersStopped}
+use Rattle.decision.proofs.AnswerLaws.{inhibited-as, modified-as}
+use Rattle.decision.proofs.VerdictLaws.{judged-none, judged-some, no-write, not-used, diverted, diversion-broken, gift-items, exactly}
+
+module _ (m : Monitor) (b : Bytes) (q : Call) (e : callIn b ≡ some q) (k : ℕ) where
+  abbrev rule : Rule
+  rule = ruleAt (m .sets) (m .fields) k
+
+  pub stop-no-write : (n : ℕ) → n ≡ actionAt (m .fields) k → not (eqb n 1 && eqb (b .kind) 9) ≡ true → AnswersStopped m q k (record { answer = Inhibit k; monitor = m })
+  stop-no-write n f h = inhibited-as m q k (λ z. no-write m b q e k (eqb n 1) (ap (λ (x : ℕ). eqb x 1) f) h)
+
+  -- the substitute is below 64, as the code has it
+  module _ (c : ℕ) (g : c ≡ substituteAt (m .fields) k) (y : Bool) (u : y ≡ used (maps m .tables) c) where
+    use-is : y ≡ used (maps m .tables) (rule .substitute)
+    use-is = u ∙ ap (used (maps m .tables)) g
+
+    pub stop-not-used : not y ≡ true → AnswersStopped m q k (record { answer = Inhibit k; monitor = m })
+    stop-not-used h = inhibited-as m q k (λ z. not-used m b q e k y use-is (not-true y h))
+
+    module _ (n : ℕ) (f : n ≡ actionAt (m .fields) k) (d : not (eqb n 1 && eqb (b .kind) 9) ≡ false) (h : not y ≡ false) (long : length (m .words) ≡ 97)
+        (x : ℕ) (ix : x ≡ getD (itemsIn (m .words)) (8 + b .process) 0) (r : ℕ) (ir : r ≡ reach (maps m .tables) (c % 64)) (plan : Plan) (ip : plan ≡ gives x r) (j : ℕ) (js : Judged (itemsIn (m .words)) plan (m .sets) (m .fields) j) where
+      to-small : c % 64 ≡ rule .substitute
+      unfolding substituteAt
+      to-small = mod-eq-of-lt (rw g (omega arith)) ∙ g
+
+      plan-is : plan ≡ gives (getD (itemsIn (m .words)) (containerOf (b .process)) 0) (reach (maps m .tables) (rule .substitute))
+      plan-is = ip ∙ ap₂ gives ix (ir ∙ ap (reach (maps m .tables)) to-small)
+
+      items-are : after (view m) (diversion (view m) q rule) .items ≡ itemsBy (itemsIn (m .words)) plan
+      items-are = gift-items m b q e k long ∙ ap (itemsBy (itemsIn (m .words))) (sym plan-is)
+
+      sees : Foreseen (itemsIn (m .words)) (after (view m) (diversion (view m) q rule) .items) plan
+      sees = exactly (itemsIn (m .words)) _ plan items-are
+
+      same-rules : after (view m) (diversion (view m) q rule) .rules ≡ view m .rules
+      unfolding after
+      same-rules = refl
+
+      acts : eqb n 1 ≡ eqb (rule .action) 1
+      acts = ap (λ (x : ℕ). eqb x 1) f
+
+      pub stop-broken : (j ≡ countOf (m .fields) → ⊥) → AnswersStopped m q k (record { answer = Inhibit k; monitor = m })
+      stop-broken t =
+          inhibited-as m q k (λ z. diversion-broken m b q e k (eqb n 1) y acts d use-is (not-false y h) _ (judged-some m plan _ same-rules sees j js t z))
+
+      -- the monitor after the write to the substitute
+      moved : (w : List ℕ) → mapsOf w (m .descriptors) (m .names) ≡ withItems (maps m) (itemsBy (maps m .items) plan)
+          → view (monitor w (m .descriptors) (m .names) (m .sets) (m .fields)) ≡ after (view m) (diversion (view m) q rule)
+      unfolding view after diversion mapsOf
+      moved w v = ap (λ (s : Maps). record { tables = s .tables; items = s .items; rules = view m .rules }) (v ∙ ap (withItems (maps m)) (sym items-are))
+
+      pub stop-diverts : j ≡ countOf (m .fields) → (w : List ℕ) → mapsOf w (m .descriptors) (m .names) ≡ withItems (maps m) (itemsBy (maps m .items) plan)
+          → AnswersStopped m q k (record { answer = Modify k c; monitor = monitor w (m .descriptors) (m .names) (m .sets) (m .fields) })
+      stop-diverts t w v =
+          subst (λ (to : ℕ). AnswersStopped m q k (record { answer = Modify k to; monitor = monitor w (m .descriptors) (m .names) (m .sets) (m .fields) })) (sym g)
+          (modified-as m q k _ (rule .substitute) (diversion (view m) q rule)
+          (λ z. diverted m b q e k (eqb n 1) y acts d use-is (not-false y h) (judged-none m plan _ same-rules sees j js t z)) (moved w v) (judged-none m plan _ same-rules sees j js t))

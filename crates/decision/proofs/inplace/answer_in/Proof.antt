@@ -1,0 +1,99 @@
+-- `answer_in` goes by what was read.
+use mathlib.Core.Path.{refl, sym, ap, _∙_}
+use Rattle.flow.specs.Lists.{firstThat}
+use Rattle.flow.specs.Records.{conditionOf}
+use Rattle.flow.specs.Refusals.{testsOf}
+use Rattle.records.specs.declared.Record.the-variants.{Unreadable, Call, Forbid, Separate, Confine}
+use Rattle.records.specs.Reading.{readingOf}
+use Rattle.decision.proofs.AnswerLaws.{refused-as, by-reading}
+use borrow.Author.Needs.{needs}
+use Rattle.decision.proofs.inplace.answer_in.Statement.{statement}
+use Rattle.decision.proofs.inplace.answer_in.Tie as tie
+
+read-requires : tie.Need-read-requires
+read-requires c κs = search needs
+
+enum-known-record : tie.Need-enum-known-record
+enum-known-record c = search needs
+
+enum-known-record-2 : tie.Need-enum-known-record-2
+enum-known-record-2 c = search needs
+
+call-in-requires : tie.Need-call-in-requires
+call-in-requires c κs = search needs
+
+enum-known-record-3 : tie.Need-enum-known-record-3
+enum-known-record-3 c = search needs
+
+load-in-requires : tie.Need-load-in-requires
+load-in-requires c κs = search needs
+
+enum-known-record-4 : tie.Need-enum-known-record-4
+enum-known-record-4 c = search needs
+
+cast-set : tie.Need-cast-set
+cast-set c = search needs
+
+load-in-requires-2 : tie.Need-load-in-requires-2
+load-in-requires-2 c κs = search needs
+
+enum-known-record-5 : tie.Need-enum-known-record-5
+enum-known-record-5 c = search needs
+
+load-in-requires-3 : tie.Need-load-in-requires-3
+load-in-requires-3 c κs = search needs
+
+returns : tie.Need-returns
+unfolding readingOf testsOf firstThat
+returns c =
+    let c3 = c .before .before .before in
+    by-reading _ _ (Unreadable _) _ (ap readingOf (sym (c .before .«record» .given .1)) ∙ c3 .read .ensures) (refused-as _ _ _ refl)
+
+returns-2 : tie.Need-returns-2
+unfolding readingOf conditionOf
+returns-2 c =
+    let c7 = c .before .before .before .before .before .before .before in
+    let c9 = c7 .before .before in
+    by-reading _ _ (Call _ _ _ _ _) _ (ap readingOf (sym (c7 .record2 .given .1)) ∙ c9 .read .ensures) (c .call-in .ensures)
+
+returns-3 : tie.Need-returns-3
+unfolding readingOf conditionOf
+returns-3 c =
+    let c5 = c .before .before .before .before .before in
+    let c7 = c5 .before .before in
+    by-reading _ _ (Forbid _ _ _ _) _ (ap readingOf (sym (c5 .record3 .given .1)) ∙ c7 .read .ensures) (c .load-in .ensures _ _)
+
+returns-4 : tie.Need-returns-4
+unfolding readingOf conditionOf
+returns-4 c =
+    let c5 = c .before .before .before .before .before in
+    let c7 = c5 .before .before in
+    by-reading _ _ (Separate _ _ _ _) _ (ap readingOf (sym (c5 .record4 .given .1)) ∙ c7 .read .ensures) (c .load-in2 .ensures _ _)
+
+returns-5 : tie.Need-returns-5
+unfolding readingOf conditionOf
+returns-5 c =
+    let c5 = c .before .before .before .before .before in
+    let c7 = c5 .before .before in
+    by-reading _ _ (Confine _ _ _ _) _ (ap readingOf (sym (c5 .record5 .given .1)) ∙ c7 .read .ensures) (c .load-in3 .ensures _ _)
+
+pub answer-in-spec : {M : Type 1} → statement M
+answer-in-spec =
+    tie.close
+    (tie.spec
+    read-requires
+    enum-known-record
+    enum-known-record-2
+    call-in-requires
+    enum-known-record-3
+    load-in-requires
+    enum-known-record-4
+    cast-set
+    load-in-requires-2
+    enum-known-record-5
+    load-in-requires-3
+    returns
+    returns-2
+    returns-3
+    returns-4
+    returns-5)

@@ -1,0 +1,127 @@
+-- `stop_in` inhibits, or diverts the write to the rule's substitute.
+use Prim.Native.Nat.{ℕ, _%_}
+use native.Mathlib.Omega.{arith}
+use native.Mathlib.Nat.{mod-eq-of-lt}
+use mathlib.Core.Path.{_≡_, sym, ap, _∙_}
+use mathlib.Core.List.{List}
+use lib.ListN.{length}
+use Rattle.tracker.proofs.Facts.{process-lt}
+use Rattle.decision.specs.declared.Monitor.{Monitor}
+use Rattle.decision.specs.View.{monitor}
+use Rattle.decision.proofs.StopLaws.{stop-no-write, stop-not-used, stop-broken, stop-diverts}
+use borrow.Author.Needs.{needs}
+use Rattle.decision.proofs.inplace.stop_in.Statement.{statement}
+use Rattle.decision.proofs.inplace.stop_in.Tie as tie
+
+long : (c : tie.After-sizes) → length (c .before .before .before .before .before .args .words .now) ≡ 97
+long c = search needs
+
+sizes-requires : tie.Need-sizes-requires
+sizes-requires c κs = search needs
+
+action-requires : tie.Need-action-requires
+action-requires c κs =
+    let c4 = c .before .before .before .before in
+    c4 .pre .0
+
+returns : tie.Need-returns
+returns c =
+    let c2 = c .before .before in
+    let c7 = c2 .before .before .before .before .before in
+    let a = c7 .args in
+    λ x e. stop-no-write (monitor (a .words .now) (a .descriptors .now) (a .names .now) (a .sets .now) (a .fields .now)) (a .q) x e (a .k) _ (c2 .action .ensures) (c .if1 .taken)
+
+substitute-requires : tie.Need-substitute-requires
+substitute-requires c κs =
+    let c7 = c .before .before .before .before .before .before .before in
+    c7 .pre .0
+
+in-use-requires : tie.Need-in-use-requires
+in-use-requires c κs = search needs
+
+returns-2 : tie.Need-returns-2
+returns-2 c =
+    let c1 = c .before in
+    let c3 = c1 .before .before in
+    let c11 = c3 .before .before .before .before .before .before .before .before in
+    let a = c11 .args in
+    λ x e. stop-not-used (monitor (a .words .now) (a .descriptors .now) (a .names .now) (a .sets .now) (a .fields .now)) (a .q) x e (a .k) _ (c3 .substitute .ensures) _ (c1 .in-use .ensures) (c .if2 .taken)
+
+add-own : tie.Need-add-own
+add-own c =
+    let c12 = c .before .before .before .before .before .before .before .before .before .before .before .before in
+    omega (arith, process-lt (c12 .pre .1))
+
+items-requires : tie.Need-items-requires
+items-requires c κs = search needs
+
+reach-requires : tie.Need-reach-requires
+reach-requires c κs = search needs
+
+giving-requires : tie.Need-giving-requires
+giving-requires c κs = search needs
+
+judge-requires : tie.Need-judge-requires
+judge-requires c κs = search needs
+
+count-requires : tie.Need-count-requires
+count-requires c κs = search needs
+
+returns-3 : tie.Need-returns-3
+returns-3 c =
+    let c1 = c .before in
+    let c2 = c1 .before in
+    let c4 = c2 .before .before in
+    let c5 = c4 .before in
+    let c7 = c5 .before .before in
+    let c10 = c7 .before .before .before in
+    let c11 = c10 .before in
+    let c13 = c11 .before .before in
+    let c14 = c13 .before in
+    let c16 = c14 .before .before in
+    let c17 = c16 .before in
+    let c21 = c17 .before .before .before .before in
+    let a = c21 .args in
+    λ x e. stop-broken (monitor (a .words .now) (a .descriptors .now) (a .names .now) (a .sets .now) (a .fields .now)) (a .q) x e (a .k) _ (c13 .substitute .ensures) _ (c11 .in-use .ensures) _ (c16 .action .ensures) (c14 .if1 .left) (c10 .if2 .left) (long c17) _ (c7 .items .ensures) _ (c5 .reach .ensures (a .descriptors .now) (a .names .now)) _ (c4 .giving .ensures) _ (c2 .judge .ensures) (λ d. c .if3 .taken (d ∙ sym (c1 .count .ensures)))
+
+make-items-requires : tie.Need-make-items-requires
+make-items-requires c κs = search needs
+
+returns-4 : tie.Need-returns-4
+returns-4 c =
+    let c2 = c .before .before in
+    let c3 = c2 .before in
+    let c4 = c3 .before in
+    let c6 = c4 .before .before in
+    let c7 = c6 .before in
+    let c9 = c7 .before .before in
+    let c12 = c9 .before .before .before in
+    let c13 = c12 .before in
+    let c15 = c13 .before .before in
+    let c16 = c15 .before in
+    let c18 = c16 .before .before in
+    let c19 = c18 .before in
+    let c23 = c19 .before .before .before .before in
+    let a = c23 .args in
+    λ x e. stop-diverts (monitor (a .words .now) (a .descriptors .now) (a .names .now) (a .sets .now) (a .fields .now)) (a .q) x e (a .k) _ (c15 .substitute .ensures) _ (c13 .in-use .ensures) _ (c18 .action .ensures) (c16 .if1 .left) (c12 .if2 .left) (long c19) _ (c9 .items .ensures) _ (c7 .reach .ensures (a .descriptors .now) (a .names .now)) _ (c6 .giving .ensures) _ (c4 .judge .ensures) (c2 .if3 .left ∙ c3 .count .ensures) _ (c .make-items .ensures (a .descriptors .now) (a .names .now))
+
+
+pub stop-in-spec : {M : Type 1} → statement M
+stop-in-spec =
+    tie.close
+    (tie.spec
+    sizes-requires
+    action-requires
+    returns
+    substitute-requires
+    in-use-requires
+    returns-2
+    add-own
+    items-requires
+    reach-requires
+    giving-requires
+    judge-requires
+    count-requires
+    returns-3
+    make-items-requires
+    returns-4)
