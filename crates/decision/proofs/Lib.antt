@@ -4,3 +4,6 @@ pub mod HookLaws
 pub mod Stored
 pub mod Telling
 pub mod Bounds
+pub mod Chains
+pub mod Holding
+pub mod LogTelling
