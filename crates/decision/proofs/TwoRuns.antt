@@ -1,5 +1,5 @@
 -- Demand 3 of the code follows from demand 3 of the definitions: the trackers of a chain are sound and, viewed, the states of the definitions.
-use Prim.Native.Nat.{ℕ, zero, suc}
+use Prim.Native.Nat.{ℕ, zero, suc, _<_}
 use native.Mathlib.Omega.{arith}
 use mathlib.Core.Path.{_≡_, refl, sym, ap, subst, _∙_}
 use mathlib.Core.Logic.{inl, inr, ⊎-elim}
@@ -10,9 +10,9 @@ use lib.ListN.{length}
 use Rattle.flow.specs.Lists.{firstThat}
 use Rattle.flow.specs.Box.{Rule, State}
 use Rattle.flow.specs.Rules.{forbids, lowestBroken}
-use Rattle.flow.specs.Records.{Reading, aRule}
+use Rattle.flow.specs.Records.{Reading, aRule, reading}
 use Rattle.flow.specs.Refusals.{ruleTests}
-use Rattle.flow.specs.Verdicts.{loads, outcomeOfRule, outcomeOf, outcome, rule, answerOf, withRule, stateAfter, runLog}
+use Rattle.flow.specs.Verdicts.{loads, outcomeOfRule, outcomeOf, outcome, rule, answerOf, answer, withRule, stateAfter, runLog}
 use Rattle.flow.specs.Queries.{itemsQuery}
 use Rattle.flow.specs.Contents.{Step, entry, memory, stepState, stepAt, stateAt}
 use Rattle.flow.specs.TwoRuns.{RecordedWithout, Forbidden, first, later, RulesForbid, Demand3}
@@ -26,7 +26,7 @@ use Rattle.decision.specs.declared.Answer.{Answer}
 use Rattle.decision.specs.View.{view}
 use Rattle.decision.specs.Answers.{wordOf, Sound}
 use Rattle.decision.specs.Logs.{AnswersLogBy, AnswersLog}
-use Rattle.decision.specs.TwoRuns.{Chain, AnswersWithout, LoadedAgainst, RulesLoadedForbid, Demand3OfCode, LogsGoOn}
+use Rattle.decision.specs.TwoRuns.{Chain, AnswersWithout, RulesLoadedForbid, Demand3OfCode, LogsGoOn}
 
 -- ---- the trackers of a chain are sound, and stand for the states of the definitions
 module _ (steps : List Step) (x : ℕ → Monitor) (a : ℕ → Answer) (c : Chain steps x a) where
@@ -63,26 +63,28 @@ forbidden-last : (c i : ℕ) (rs : List Rule) (r : Rule) → forbids (r .conditi
 forbidden-last c i [] r h = first h
 forbidden-last c i (x ∷ rs) r h = later (forbidden-last c i rs r h)
 
+-- the rule is among those of the state after its record, and of every later one
+pub forbidden-loaded : (steps : List Step) (place j : ℕ) → place < j → (bytes : List ℕ) → stepAt steps place ≡ entry bytes → (k : ℕ) → answer (stateAt steps place) bytes ≡ rule k
+    → (r : Rule) → reading bytes ≡ aRule r → (c i : ℕ) → forbids (r .condition) c i ≡ true → Forbidden c i (stateAt steps j .rules)
+unfolding stateAt stepState stateAfter withRule outcome answer
+forbidden-loaded steps place j earlier bytes is-record k answered r is-rule c i f =
+    let s : State = stateAt steps place in
+    let e : outcomeOf s (reading bytes) ≡ loads (length (s .rules)) r = ap (outcomeOf s) is-rule ∙ loaded-outcome s r k (ap (λ (y : Reading). answerOf (outcomeOf s y)) (sym is-rule) ∙ answered) in
+    let v : stepState s (stepAt steps place) ≡ withRule s r = ap (stepState s) is-record ∙ ap (stateAfter s) e in
+    forbidden-later steps c i (suc place) j earlier (subst (λ (u : State). Forbidden c i (u .rules)) (sym v) (forbidden-last c i (s .rules) r f))
+
 module _ (steps : List Step) (x : ℕ → Monitor) (a : ℕ → Answer) (ch : Chain steps x a) where
-  -- the rule is among those of the state after its record
-  loaded-forbids : (j c i : ℕ) → (w : LoadedAgainst steps a j c i) → Forbidden c i (view (x (suc (w .place))) .rules)
-  unfolding stateAfter withRule wordOf
-  loaded-forbids j c i w =
-      let s : State = view (x (w .place)) in
-      let h = ch .answers (w .place) (w .bytes) (w .is-record) in
-      let sound : Sound (x (w .place)) = chain-sound steps x a ch (w .place) in
-      let f : answerOf (outcomeOf s (aRule (w .loaded))) ≡ rule (w .number) =
-      ap (λ (y : Reading). answerOf (outcomeOf s y)) (sym (w .is-rule)) ∙ sym (h .answer sound) ∙ ap wordOf (w .answered) in
-      let e : outcomeOf s (aRule (w .loaded)) ≡ loads (length (s .rules)) (w .loaded) = loaded-outcome s (w .loaded) (w .number) f in
-      let v : view (x (suc (w .place))) ≡ withRule s (w .loaded) = h .state sound ∙ ap (λ (y : Reading). stateAfter s (outcomeOf s y)) (w .is-rule) ∙ ap (stateAfter s) e in
-      subst (λ (u : State). Forbidden c i (u .rules)) (sym v) (forbidden-last c i (s .rules) (w .loaded) (w .forbidden))
+  -- the answers are those of the definitions
+  pub chain-answer : (n : ℕ) (bytes : List ℕ) → stepAt steps n ≡ entry bytes → wordOf (a n) ≡ answer (stateAt steps n) bytes
+  unfolding answer outcome
+  chain-answer n bytes e = ch .answers n bytes e .answer (chain-sound steps x a ch n) ∙ ap (λ (s : State). answerOf (outcomeOf s (reading bytes))) (chain-view steps x a ch n)
 
   pub barred : (chosen : ℕ → Bool) (j c : ℕ) → RulesLoadedForbid chosen steps a j c → RulesForbid chosen (stateAt steps j) c
-  unfolding RulesLoadedForbid RulesForbid
+  unfolding RulesLoadedForbid RulesForbid wordOf
   barred chosen j c h i l m =
       let w = h i l m in
-      forbidden-later steps c i (suc (w .place)) j (w .earlier)
-      (subst (λ (u : State). Forbidden c i (u .rules)) (chain-view steps x a ch (suc (w .place))) (loaded-forbids j c i w))
+      forbidden-loaded steps (w .place) j (w .earlier) (w .bytes) (w .is-record) (w .number)
+      (sym (chain-answer (w .place) (w .bytes) (w .is-record)) ∙ ap wordOf (w .answered)) (w .loaded) (w .is-rule) c i (w .forbidden)
 
   pub clean : (chosen : ℕ → Bool) (k c : ℕ) → AnswersWithout chosen (x k) c → RecordedWithout chosen (stateAt steps k) c
   unfolding AnswersWithout RecordedWithout replyOf
