@@ -7,3 +7,4 @@ pub mod Bounds
 pub mod Chains
 pub mod Holding
 pub mod LogTelling
+pub mod Operations
