@@ -7,7 +7,7 @@ use mathlib.Core.Path.{_≡_, refl, sym, ap, subst, _∙_}
 use mathlib.Core.Bool.{true}
 use mathlib.Core.List.{List, [], _∷_, _++_}
 use mathlib.Core.Option.{Option, none, some}
-use lib.Dec.{ltb, eqb}
+use lib.Dec.{eqb}
 use lib.ListN.{getD, length, take, drop, replicate, set, length-set, length-take, length-replicate, List·getD-eq-default}
 use lib.Seq.{getD-drop}
 use lib.Pow.{pow-pos}

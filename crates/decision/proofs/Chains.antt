@@ -23,7 +23,7 @@ use Rattle.decision.specs.TwoRuns.{Chain}
 use Rattle.decision.specs.Logs.{inBytes}
 use Rattle.decision.proofs.Stored.{held, held-view}
 use Rattle.decision.proofs.Telling.{small, small-bytes, kept-ruled, outcome-small}
-use Rattle.decision.proofs.Bounds.{Bounded, state-bounded}
+use Rattle.decision.proofs.Bounds.{state-bounded}
 
 -- ---- the answer of an outcome
 unfoldable pub answerFor : Outcome → Answer

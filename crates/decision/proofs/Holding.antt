@@ -7,7 +7,7 @@ use mathlib.Core.Logic.{⊎-elim}
 use mathlib.Core.Bool.{Bool, true}
 use mathlib.Core.List.{List, [], _∷_, _++_, map}
 use lib.Dec.{ltb, leb}
-use lib.ListN.{getD, length, length-append, List·getD-map}
+use lib.ListN.{length, length-append, List·getD-map}
 use borrow.Author.Tests.{ltb-true}
 use Rattle.flow.specs.Box.{isFile, isTarget, Condition, forbid, separate, confine, Rule, State}
 use Rattle.flow.specs.Refusals.{itemsFit}
@@ -19,7 +19,7 @@ use Rattle.flow.proofs.Rows.{target-lt, Rows}
 use Rattle.flow.proofs.Entries.{Each}
 use Rattle.flow.proofs.Keeping.{Invariant, state-kept}
 use Rattle.decision.specs.Chains.{Numbers, Holdable, ChainExists}
-use Rattle.decision.proofs.Stored.{tagIn, itemIn, setIn, blank, padded, row, rows, setsOf, fieldsOf, wordsOf, held, items-fit, action-lt, substitute-lt, formed-at}
+use Rattle.decision.proofs.Stored.{tagIn, itemIn, setIn, blank, padded, row, rows, setsOf, fieldsOf, wordsOf, held, items-fit, action-lt, substitute-lt}
 use Rattle.decision.proofs.Bounds.{Below, table-below, Bounded, state-bounded, SetsFit, state-fits}
 use Rattle.decision.proofs.Chains.{monitorAt, answerAt, chain-over, answer-bytes}
 

@@ -8,3 +8,4 @@ pub mod Chains
 pub mod Holding
 pub mod LogTelling
 pub mod Operations
+pub mod OperationChains

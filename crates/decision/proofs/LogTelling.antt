@@ -46,7 +46,7 @@ more-diverted [] r h l (suc k) = h k
 more-diverted (x ∷ rs) r h l zero = h 0
 more-diverted (x ∷ rs) r h l (suc k) = more-diverted rs r (λ i. h (suc i)) l k
 
-after-ruled : (s : State) (y : Reading) (o : Outcome) → Tabled s y o → Ruled s → Ruled (stateAfter s o)
+pub after-ruled : (s : State) (y : Reading) (o : Outcome) → Tabled s y o → Ruled s → Ruled (stateAfter s o)
 unfolding stateAfter Tabled withRule after
 after-ruled s y (refuses n) t h = h
 after-ruled s y (loads n r) t h =

@@ -10,7 +10,7 @@ use lib.Seq.{take-nil, take-suc, take-append-seam}
 use Rattle.flow.specs.Box.{State, fresh}
 use Rattle.flow.specs.Rules.{lowestBroken}
 use Rattle.flow.specs.Records.{recordsOf}
-use Rattle.flow.specs.Verdicts.{Answer as Word, allow, answerOf, answer, outcome, stateAfter, answerAll, runLog}
+use Rattle.flow.specs.Verdicts.{Answer as Word, allow, answer, outcome, stateAfter, answerAll, runLog}
 use Rattle.flow.specs.Queries.{itemsQuery}
 use Rattle.flow.specs.Contents.{Step, entry, memory, stepState, stepAt, stateAt}
 use Rattle.flow.specs.TwoRuns.{RecordedWithout, RulesForbid, Demand3}
@@ -21,7 +21,7 @@ use Rattle.decision.specs.declared.Monitor.{Monitor}
 use Rattle.decision.specs.declared.Answer.{Answer}
 use Rattle.decision.specs.View.{view}
 use Rattle.decision.specs.Answers.{wordOf, Sound, AnswersRecord}
-use Rattle.decision.specs.Logs.{wordFrom, codesOf, AnswersLogBy, AnswersLog}
+use Rattle.decision.specs.Logs.{wordFrom, AnswersLogBy, AnswersLog}
 use Rattle.decision.specs.TwoRuns.{AnswersWithout}
 use Rattle.decision.specs.Chains.{callRecord, CallIsRecord, given, called, moves, stepOf, Operation, event, run, stepsOf, allSteps, moment, operationAt, AnswersRun, AnswersOperation, OperationChain, toldTo, toldBy, told, OperationsAreSteps, RulesToldForbid, Demand3OfOperations}
 use Rattle.decision.specs.Telling.{LogCodesTell}
@@ -30,7 +30,7 @@ use Rattle.decision.proofs.HookLaws.{call-is-record}
 use Rattle.decision.proofs.LogTelling.{log-codes-tell}
 
 -- ---- the state after a list of steps, and a word for each
-unfoldable stateBy : State → List Step → State
+unfoldable pub stateBy : State → List Step → State
 stateBy s [] = s
 stateBy s (x ∷ xs) = stateBy (stepState s x) xs
 
@@ -42,7 +42,7 @@ unfoldable wordsBy : State → List Step → List Word
 wordsBy s [] = []
 wordsBy s (x ∷ xs) = wordOn s x ∷ wordsBy (stepState s x) xs
 
-state-append : (s : State) (xs ys : List Step) → stateBy s (xs ++ ys) ≡ stateBy (stateBy s xs) ys
+pub state-append : (s : State) (xs ys : List Step) → stateBy s (xs ++ ys) ≡ stateBy (stateBy s xs) ys
 unfolding stateBy
 state-append s [] ys = refl
 state-append s (x ∷ xs) ys = state-append (stepState s x) xs ys
@@ -73,7 +73,7 @@ word-at s (x ∷ xs) zero bytes e = ap (wordOn s) e
 word-at s (x ∷ xs) (suc k) bytes e = word-at (stepState s x) xs k bytes e
 
 -- the records of a log
-records-state : (s : State) (rs : List (List ℕ)) → answerAll s rs .state ≡ stateBy s (map entry rs)
+pub records-state : (s : State) (rs : List (List ℕ)) → answerAll s rs .state ≡ stateBy s (map entry rs)
 unfolding answerAll stateBy stepState
 records-state s [] = refl
 records-state s (r ∷ rs) = records-state (stateAfter s (outcome s r)) rs
@@ -156,7 +156,7 @@ module _ (os : List Operation) (n : ℕ) where
   unfolding moment
   moment-le = let e : length (allSteps os) ≡ length (allSteps (take n os)) + length (allSteps (drop n os)) = ap length split ∙ length-append (allSteps (take n os)) (allSteps (drop n os)) in omega arith
 
-  state-moment : stateAt (allSteps os) (moment os n) ≡ stateBy fresh (allSteps (take n os))
+  pub state-moment : stateAt (allSteps os) (moment os n) ≡ stateBy fresh (allSteps (take n os))
   unfolding moment
   state-moment =
       state-at (allSteps os) (moment os n) moment-le

@@ -138,6 +138,20 @@ pub record OperationChain (os : List Operation) (x : ℕ → Monitor) (a : ℕ �
   pub made : IsFresh (x 0)
   pub answers : (n : ℕ) → AnswersOperation (operationAt os n) (x n) (a n) (codes n) (x (suc n))
 
+-- there is one for each list of operations; where the records are of bytes, its trackers are values of the code's type, and its answers and
+-- codes always are
+pub record OperationsOver (os : List Operation) : Type 0 where
+  pub x : ℕ → Monitor
+  pub a : ℕ → Answer
+  pub codes : ℕ → List ℕ
+  pub chain : OperationChain os x a codes
+  pub told : (n : ℕ) → inBytes (a n)
+  pub coded : (n k : ℕ) → getD (codes n) k 0 < 2 ^ 32
+  pub holdable : ((n : ℕ) → ofBytes (stepAt (allSteps os) n)) → (n : ℕ) → Holdable (x n)
+
+unfoldable pub OperationChainExists : Type 0
+OperationChainExists = (os : List Operation) → OperationsOver os
+
 -- the words told to the steps of an operation; `allow` stands where memory moves, which is told nothing
 unfoldable pub toldTo : Event → Answer → Word
 toldTo (given bytes) a = wordOf a
