@@ -4,3 +4,14 @@ pub mod CallLaws
 pub mod StopLaws
 pub mod LoadLaws
 pub mod LogLaws
+pub mod CodeLaws
+pub mod TwoRuns
+pub mod HookLaws
+pub mod Stored
+pub mod Telling
+pub mod Bounds
+pub mod Chains
+pub mod Holding
+pub mod LogTelling
+pub mod Operations
+pub mod OperationChains

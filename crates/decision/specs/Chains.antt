@@ -1,19 +1,24 @@
--- That there is a chain for each list of steps, and that a call by the hook is a step of one (`Chain` and demand 3 of the code: TwoRuns).
+-- That there is a chain for each list of steps, that a call by the hook is a step of one, and that a whole log is its records (`Chain` and
+-- demand 3 of the code: TwoRuns).
 use Prim.Native.Nat.{ℕ, suc, _^_, _≤_, _<_}
 use mathlib.Core.Path.{_≡_}
 use mathlib.Core.Logic.{_⊎_, _↔_}
-use mathlib.Core.Bool.{Bool}
-use mathlib.Core.List.{List, [], _∷_, map}
-use lib.ListN.{getD, length}
-use Rattle.flow.specs.Box.{containerCount}
-use Rattle.flow.specs.Records.{callTag}
-use Rattle.flow.specs.Contents.{Step, entry, memory, Machine, runAt, stepAt}
+use mathlib.Core.Bool.{Bool, true}
+use mathlib.Core.List.{List, [], _∷_, _++_, map}
+use lib.ListN.{getD, length, take}
+use Rattle.flow.specs.Box.{containerCount, itemCount, Rule}
+use Rattle.flow.specs.Rules.{forbids}
+use Rattle.flow.specs.Records.{callTag, aRule, reading, recordsOf}
+use Rattle.flow.specs.Verdicts.{Answer as Word, rule, allow, answer}
+use Rattle.flow.specs.Contents.{Step, entry, memory, Machine, runAt, stepAt, stateAt}
 use Rattle.flow.specs.TwoRuns.{Agree}
+use Rattle.tracker.specs.declared.queries.Reply.{Reply}
 use Rattle.decision.specs.declared.Monitor.{Monitor}
 use Rattle.decision.specs.declared.Answer.{Answer}
 use Rattle.decision.specs.declared.Answered.{Answered}
-use Rattle.decision.specs.Answers.{IsFresh, AnswersRecord, AnswersCall}
-use Rattle.decision.specs.Logs.{inBytes}
+use Rattle.decision.specs.View.{view}
+use Rattle.decision.specs.Answers.{wordOf, Sound, IsFresh, AnswersRecord, AnswersCall}
+use Rattle.decision.specs.Logs.{wordFrom, inBytes, roomFor, AnswersLog}
 use Rattle.decision.specs.TwoRuns.{Chain, AnswersWithout, RulesLoadedForbid}
 
 -- ---- the values of the code's types
@@ -91,3 +96,110 @@ Demand3OfHook =
     (k : ℕ) → k ≤ length events → (c : ℕ) → c < containerCount
     → (AnswersWithout chosen (x k) c ⊎ AnswersWithout chosen (y k) c → runAt m in₁ steps k .contents c ≡ runAt m in₂ steps k .contents c)
     × ((j : ℕ) → j ≤ k → RulesLoadedForbid chosen steps a j c ⊎ RulesLoadedForbid chosen steps b j c → runAt m in₁ steps k .contents c ≡ runAt m in₂ steps k .contents c))
+
+-- ---- whole logs
+-- what a kernel does: an event, or a whole log that it hands over
+pub data Operation : Type 0 where
+  event : Event → Operation
+  run : List ℕ → Operation
+
+-- a log stands for its records
+unfoldable pub stepsOf : Operation → List Step
+stepsOf (event e) = stepOf e ∷ []
+stepsOf (run log) = map entry (recordsOf log)
+
+unfoldable pub allSteps : List Operation → List Step
+allSteps [] = []
+allSteps (o ∷ os) = stepsOf o ++ allSteps os
+
+-- the moment at which operation n starts
+unfoldable pub moment : List Operation → ℕ → ℕ
+moment os n = length (allSteps (take n os))
+
+abbrev pub operationAt : List Operation → ℕ → Operation
+operationAt os n = getD os n (event moves)
+
+-- `Monitor::run` on a log, with room for its codes: from the monitor m to the next
+pub record AnswersRun (m : Monitor) (log codes : List ℕ) (next : Monitor) : Type 0 where
+  pub before : List ℕ
+  pub reply : Reply
+  pub room : roomFor log before ≡ true
+  pub answers : AnswersLog m log before (record { reply = reply; monitor = next }) codes
+
+-- what the functions promise for an operation on the monitor m: the answer, or the codes of a log, and the monitor after it
+unfoldable pub AnswersOperation : Operation → Monitor → Answer → List ℕ → Monitor → Type 0
+AnswersOperation (event (given bytes)) m a codes next = AnswersRecord m bytes (record { answer = a; monitor = next })
+AnswersOperation (event (called kind p d e f)) m a codes next = AnswersCall m kind p d e f (record { answer = a; monitor = next })
+AnswersOperation (event moves) m a codes next = next ≡ m
+AnswersOperation (run log) m a codes next = AnswersRun m log codes next
+
+-- a chain of operations: x n is the tracker before operation n
+pub record OperationChain (os : List Operation) (x : ℕ → Monitor) (a : ℕ → Answer) (codes : ℕ → List ℕ) : Type 0 where
+  pub made : IsFresh (x 0)
+  pub answers : (n : ℕ) → AnswersOperation (operationAt os n) (x n) (a n) (codes n) (x (suc n))
+
+-- there is one for each list of operations; where the records are of bytes, its trackers are values of the code's type, and its answers and
+-- codes always are
+pub record OperationsOver (os : List Operation) : Type 0 where
+  pub x : ℕ → Monitor
+  pub a : ℕ → Answer
+  pub codes : ℕ → List ℕ
+  pub chain : OperationChain os x a codes
+  pub told : (n : ℕ) → inBytes (a n)
+  pub coded : (n k : ℕ) → getD (codes n) k 0 < 2 ^ 32
+  pub holdable : ((n : ℕ) → ofBytes (stepAt (allSteps os) n)) → (n : ℕ) → Holdable (x n)
+
+unfoldable pub OperationChainExists : Type 0
+OperationChainExists = (os : List Operation) → OperationsOver os
+
+-- the words told to the steps of an operation; `allow` stands where memory moves, which is told nothing
+unfoldable pub toldTo : Event → Answer → Word
+toldTo (given bytes) a = wordOf a
+toldTo (called kind p d e f) a = wordOf a
+toldTo moves a = allow
+
+unfoldable pub toldBy : Operation → Answer → List ℕ → List Word
+toldBy (event e) a codes = toldTo e a ∷ []
+toldBy (run log) a codes = map wordFrom (take (length (recordsOf log)) codes)
+
+-- to all steps
+unfoldable pub told : List Operation → (ℕ → Answer) → (ℕ → List ℕ) → List Word
+told [] a codes = []
+told (o ∷ os) a codes = toldBy o (a 0) (codes 0) ++ told os (λ n. a (suc n)) (λ n. codes (suc n))
+
+-- Operations are steps: before each operation the tracker is sound, and its state is that of the steps so far; and each record, also within a
+-- log, was told the answer of document 01.
+unfoldable pub OperationsAreSteps : Type 0
+OperationsAreSteps =
+    (os : List Operation) (x : ℕ → Monitor) (a : ℕ → Answer) (codes : ℕ → List ℕ) → OperationChain os x a codes
+    → (let steps = allSteps os in
+    ((n : ℕ) → Sound (x n) × (view (x n) ≡ stateAt steps (moment os n)))
+    × ((place : ℕ) (bytes : List ℕ) → stepAt steps place ≡ entry bytes → getD (told os a codes) place allow ≡ answer (stateAt steps place) bytes))
+
+-- by moment j a rule that forbids container c item i was loaded: its record was told "rule"
+pub record ToldAgainst (steps : List Step) (words : List Word) (j c i : ℕ) : Type 0 where
+  pub place : ℕ
+  pub earlier : place < j
+  pub bytes : List ℕ
+  pub is-record : stepAt steps place ≡ entry bytes
+  pub number : ℕ
+  pub answered : getD words place allow ≡ rule number
+  pub loaded : Rule
+  pub is-rule : reading bytes ≡ aRule loaded
+  pub forbidden : forbids (loaded .condition) c i ≡ true
+
+unfoldable pub RulesToldForbid : (ℕ → Bool) → List Step → List Word → ℕ → ℕ → Type 0
+RulesToldForbid chosen steps words j c = (i : ℕ) → i < itemCount → chosen i ≡ true → ToldAgainst steps words j c i
+
+-- Demand 3 of a kernel that also hands over whole logs. What the items query answers is asked before an operation; rules count from the step
+-- on that loaded them, also within a log.
+unfoldable pub Demand3OfOperations : Type 1
+Demand3OfOperations =
+    (W : Type 0) (m : Machine W) (chosen : ℕ → Bool) (os : List Operation) (in₁ in₂ : ℕ → W) → Agree chosen (allSteps os) in₁ in₂
+    → (x y : ℕ → Monitor) (a b : ℕ → Answer) (f g : ℕ → List ℕ) → OperationChain os x a f → OperationChain os y b g
+    → (let steps = allSteps os in
+    (c : ℕ) → c < containerCount
+    → ((n : ℕ) → AnswersWithout chosen (x n) c ⊎ AnswersWithout chosen (y n) c
+    → runAt m in₁ steps (moment os n) .contents c ≡ runAt m in₂ steps (moment os n) .contents c)
+    × ((j k : ℕ) → j ≤ k → k ≤ length steps → RulesToldForbid chosen steps (told os a f) j c ⊎ RulesToldForbid chosen steps (told os b g) j c
+    → runAt m in₁ steps k .contents c ≡ runAt m in₂ steps k .contents c))

@@ -1,4 +1,5 @@
 -- `load_in` refuses a rule, or stores it behind the others.
+use mathlib.Core.List.{[]}
 use mathlib.Core.Path.{_≡_, sym, ap, _∙_}
 use Rattle.decision.specs.View.{monitor}
 use Rattle.decision.proofs.LoadLaws.{rule-unfit, rule-full, rule-broken, rule-loaded, store-asks}
@@ -37,12 +38,8 @@ returns-3 c =
     λ d n. rule-broken _ _ _ (c6 .unfit .ensures) (c5 .if1 .left) _ (c3 .count .ensures) (c2 .if2 .left) _ (c1 .breaks-now .ensures) (c .if3 .taken)
 
 store-requires : tie.Need-store-requires
-store-requires c κs =
-    let c4 = c .before .before .before .before in
-    let c5 = c4 .before in
-    let c7 = c5 .before .before in
-    let c8 = c7 .before in
-    store-asks _ _ _ (c8 .unfit .ensures) (c7 .if1 .left) _ (c5 .count .ensures) (c4 .if2 .left)
+store-requires c κs = let a = @args in
+    store-asks (monitor (a .words .now) [] [] (a .sets .now) (a .fields .now)) (a .rule) _ (@unfit .ensures) (@if1 .left) _ (@count .ensures) (@if2 .left)
 
 returns-4 : tie.Need-returns-4
 returns-4 c =
