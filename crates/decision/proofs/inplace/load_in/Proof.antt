@@ -38,8 +38,14 @@ returns-3 c =
     λ d n. rule-broken _ _ _ (c6 .unfit .ensures) (c5 .if1 .left) _ (c3 .count .ensures) (c2 .if2 .left) _ (c1 .breaks-now .ensures) (c .if3 .taken)
 
 store-requires : tie.Need-store-requires
-store-requires c κs = let a = @args in
-    store-asks (monitor (a .words .now) [] [] (a .sets .now) (a .fields .now)) (a .rule) _ (@unfit .ensures) (@if1 .left) _ (@count .ensures) (@if2 .left)
+store-requires c κs =
+    let c4 = c .before .before .before .before in
+    let c5 = c4 .before in
+    let c7 = c5 .before .before in
+    let c8 = c7 .before in
+    let c9 = c8 .before in
+    let a = c9 .args in
+    store-asks (monitor (a .words .now) [] [] (a .sets .now) (a .fields .now)) (a .rule) _ (c8 .unfit .ensures) (c7 .if1 .left) _ (c5 .count .ensures) (c4 .if2 .left)
 
 returns-4 : tie.Need-returns-4
 returns-4 c =
