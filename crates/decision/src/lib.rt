@@ -17,11 +17,11 @@ use tracker::queries::Reply;
 // A tracker with its rules: what document 01 calls a tracker. Its layout is C's, for callers that keep it in their own memory.
 #[repr(C)]
 pub struct Monitor {
-    words: [u64; 97],
-    descriptors: [u8; 512],
-    names: [u8; 128],
-    sets: [u64; 32],
-    fields: [u8; 129],
+    pub words: [u64; 97],
+    pub descriptors: [u8; 512],
+    pub names: [u8; 128],
+    pub sets: [u64; 32],
+    pub fields: [u8; 129],
 }
 
 // What a record gets.

@@ -1,25 +1,29 @@
 -- A code tells the very answer, and so demand 3 of the code is one of a kernel that goes by codes.
-use Prim.Native.Nat.{ℕ, suc, _^_, _<_}
+use Prim.Native.Nat.{ℕ, zero, suc, _^_, _<_}
 use native.Mathlib.Omega.{arith}
 use mathlib.Core.Path.{_≡_, refl, sym, ap, subst, _∙_}
 use mathlib.Core.Logic.{inl, inr, ⊎-elim}
 use mathlib.Core.Bool.{Bool}
 use mathlib.Core.List.{List, map}
+use Rattle.flow.specs.Rules.{lowestBroken}
+use Rattle.flow.specs.Verdicts.{outcome}
+use Rattle.flow.proofs.Keeping.{fresh-kept}
 use Rattle.flow.specs.Queries.{Reply as QueryWord}
 use Rattle.tracker.specs.Replies.{replyOf}
 use Rattle.decision.specs.declared.Monitor.{Monitor}
 use Rattle.decision.specs.declared.Answer.{Answer}
 use Rattle.decision.specs.declared.Answer.the-variants.{Refused, Loaded, Allow, Inhibit, Modify}
 use Rattle.decision.specs.declared.Answered.{Answered}
-use Rattle.decision.specs.Answers.{wordOf, AnswersRecord, AnswersCall}
+use Rattle.decision.specs.Answers.{wordOf, Sound, AnswersRecord, AnswersCall}
 use Rattle.decision.specs.Logs.{codeOf, wordFrom, inBytes, CodesTell}
-use Rattle.decision.specs.TwoRuns.{RecordedWithout, LoadedAgainst, LoadedForbid}
-use Rattle.decision.specs.Chains.{ChainOver, ChainExists, CallIsRecord, callRecord, ofBytes, Event, stepOf, MixedChain, HookIsStep, Demand3OfHook}
+use Rattle.decision.specs.TwoRuns.{AnswersWithout, LoadedAgainst, RulesLoadedForbid}
+use Rattle.decision.specs.Chains.{ChainOver, ChainExists, CallIsRecord, callRecord, ofBytes, Event, given, called, moves, eventAt, stepOf, MixedChain, HookIsStep, Demand3OfHook}
 use Rattle.decision.specs.Telling.{AnswersInBytes}
 use Rattle.decision.proofs.CodeLaws.{codes-tell}
 use Rattle.decision.proofs.HookLaws.{call-is-record, step-at, hook-is-step, demand3-of-hook}
 use Rattle.decision.proofs.Holding.{chain-exists}
-use Rattle.decision.proofs.LogTelling.{answers-in-bytes, answerIs}
+use Rattle.decision.proofs.Telling.{answers-in-bytes}
+use Rattle.decision.proofs.LogTelling.{answerIs}
 use Rattle.hook.specs.Codes.{Coded, Given}
 use Rattle.hook.specs.Kernels.{CodesTellAnswers, KernelChain, KernelChainExists, GivenWithout, LoadedByCode, LoadedForbidByCode, Demand3OfKernel}
 
@@ -37,20 +41,21 @@ answer-is Allow = refl
 answer-is (Inhibit n) = refl
 answer-is (Modify n c) = refl
 
-abbrev record-bytes : (m : Monitor) (bytes : List ℕ) (r : Answered) → AnswersRecord m bytes r → inBytes (r .answer)
+abbrev record-bytes : (m : Monitor) (bytes : List ℕ) (r : Answered) → AnswersRecord m bytes r → Sound m → inBytes (r .answer)
 unfolding AnswersInBytes
 record-bytes = answers-in-bytes .0
 
-abbrev call-bytes : (m : Monitor) (kind p a b c : ℕ) (r : Answered) → AnswersCall m kind p a b c r → inBytes (r .answer)
+abbrev call-bytes : (m : Monitor) (kind p a b c : ℕ) (r : Answered) → AnswersCall m kind p a b c r → Sound m → inBytes (r .answer)
 unfolding AnswersInBytes
 call-bytes = answers-in-bytes .1
 
 pub codes-tell-answers : CodesTellAnswers
-unfolding CodesTellAnswers CallIsRecord
+unfolding CodesTellAnswers CallIsRecord outcome
 codes-tell-answers = (
-  λ m m′ bytes n c. record { code = c .code ∙ ap codeOf (c .promised .answer); word = hidden (AnswersRecord m bytes) n m′ (record-bytes m bytes) c ∙ c .promised .answer },
-  λ m m′ kind p a b d n c. let r : AnswersRecord m (callRecord kind p a b d) (record { answer = c .answer; monitor = m′ }) = call-is-record m kind p a b d (record { answer = c .answer; monitor = m′ }) .0 (c .promised) in
-      record { code = c .code ∙ ap codeOf (r .answer); word = hidden (AnswersCall m kind p a b d) n m′ (call-bytes m kind p a b d) c ∙ r .answer },
+  λ m m′ bytes n c z.
+      record { code = c .code ∙ ap codeOf (c .promised .answer z); word = hidden (AnswersRecord m bytes) n m′ (λ r h. record-bytes m bytes r h z) c ∙ c .promised .answer z },
+  λ m m′ kind p a b d n c z. let r : AnswersRecord m (callRecord kind p a b d) (record { answer = c .answer; monitor = m′ }) = call-is-record m kind p a b d (record { answer = c .answer; monitor = m′ }) .0 (c .promised) in
+      record { code = c .code ∙ ap codeOf (r .answer z); word = hidden (AnswersCall m kind p a b d) n m′ (λ r h. call-bytes m kind p a b d r h z) c ∙ r .answer z },
 )
 
 -- ---- a kernel's chain is one of answers
@@ -62,12 +67,23 @@ module _ (events : List Event) (x : ℕ → Monitor) (codes : ℕ → ℕ) where
   abbrev answers : ℕ → Answer
   answers n = answerIs (wordFrom (codes n))
 
+  -- every monitor of the chain is sound
+  next-sound : KernelChain events x codes → (n : ℕ) (e : Event) → eventAt events n ≡ e → Sound (x n) → Sound (x (suc n))
+  next-sound c n (given bytes) h z = c .answers n bytes h .promised .sound z
+  next-sound c n (called kind p d e f) h z = c .calls n kind p d e f h .promised .sound z
+  next-sound c n moves h z = subst Sound (sym (c .rests n h)) z
+
+  kernel-sound : KernelChain events x codes → (k : ℕ) → Sound (x k)
+  unfolding Sound
+  kernel-sound c zero = ap lowestBroken (c .made) ∙ fresh-kept .unbroken
+  kernel-sound c (suc k) = next-sound c k (eventAt events k) refl (kernel-sound c k)
+
   kernel-mixed : KernelChain events x codes → MixedChain events x answers
   kernel-mixed c =
       record {
         made = c .made;
-        answers = λ n bytes h. told (AnswersRecord (x n) bytes) (codes n) (x (suc n)) (record-bytes (x n) bytes) (c .answers n bytes h);
-        calls = λ n kind p d e f h. told (AnswersCall (x n) kind p d e f) (codes n) (x (suc n)) (call-bytes (x n) kind p d e f) (c .calls n kind p d e f h);
+        answers = λ n bytes h. told (AnswersRecord (x n) bytes) (codes n) (x (suc n)) (λ r g. record-bytes (x n) bytes r g (kernel-sound c n)) (c .answers n bytes h);
+        calls = λ n kind p d e f h. told (AnswersCall (x n) kind p d e f) (codes n) (x (suc n)) (λ r g. call-bytes (x n) kind p d e f r g (kernel-sound c n)) (c .calls n kind p d e f h);
         rests = c .rests;
       }
 
@@ -81,15 +97,17 @@ module _ (events : List Event) (x : ℕ → Monitor) (codes : ℕ → ℕ) where
         is-record = step-at events (l .place) ∙ ap stepOf (l .is-record);
         number = l .number;
         answered = ap answerIs (l .answered);
+        loaded = l .loaded;
+        is-rule = l .is-rule;
         forbidden = l .forbidden;
       }
 
-  forbid-loaded : (chosen : ℕ → Bool) (j c : ℕ) → LoadedForbidByCode chosen events codes j c → LoadedForbid chosen (map stepOf events) answers j c
-  unfolding LoadedForbidByCode LoadedForbid
+  forbid-loaded : (chosen : ℕ → Bool) (j c : ℕ) → LoadedForbidByCode chosen events codes j c → RulesLoadedForbid chosen (map stepOf events) answers j c
+  unfolding LoadedForbidByCode RulesLoadedForbid
   forbid-loaded chosen j c h i l e = loaded j c i (h i l e)
 
-without : (chosen : ℕ → Bool) (m : Monitor) (c : ℕ) → GivenWithout chosen m c → RecordedWithout chosen m c
-unfolding GivenWithout RecordedWithout replyOf Given
+without : (chosen : ℕ → Bool) (m : Monitor) (c : ℕ) → GivenWithout chosen m c → AnswersWithout chosen m c
+unfolding GivenWithout AnswersWithout replyOf Given
 without chosen m c h w e = h 0 w (subst (λ (q : QueryWord). Given q 0 0 w) e (refl, refl))
 
 pub demand3-of-kernel : Demand3OfKernel

@@ -1,6 +1,6 @@
 -- What the code of an answer tells, and demand 3 of a kernel that links these functions. Monitors are related to each other by nothing but
--- what the functions for C promise: `Made` is the ensures of pomtvia_renew_in, `Coded (AnswersRecord ..)` that of pomtvia_answer_in,
--- `Coded (AnswersCall ..)` that of pomtvia_on_call and pomtvia_call_in, `Given (itemsQuery ..)` that of pomtvia_items_in.
+-- what the functions for C promise: `IsFresh` is the ensures of pomtvia_new, `Coded (AnswersRecord ..)` that of pomtvia_answer_in,
+-- `Coded (AnswersCall ..)` that of pomtvia_on_call and pomtvia_call, `ItemsGiven` that of pomtvia_items.
 use Prim.Native.Nat.{ℕ, suc, _^_, _≤_, _<_}
 use mathlib.Core.Path.{_≡_}
 use mathlib.Core.Logic.{_⊎_}
@@ -8,34 +8,33 @@ use mathlib.Core.Bool.{Bool, true, false}
 use mathlib.Core.List.{List, map}
 use lib.ListN.{length}
 use Rattle.sets.specs.Sets.{has}
-use Rattle.flow.specs.Box.{containerCount, itemCount}
+use Rattle.flow.specs.Box.{containerCount, itemCount, Rule}
 use Rattle.flow.specs.Rules.{forbids}
-use Rattle.flow.specs.Records.{ruleOf}
+use Rattle.flow.specs.Records.{aRule, reading}
 use Rattle.flow.specs.Verdicts.{Outcome, rule, answerOf, outcome}
-use Rattle.flow.specs.Queries.{itemsQuery}
 use Rattle.flow.specs.Contents.{Machine, runAt}
 use Rattle.flow.specs.TwoRuns.{Agree}
 use Rattle.decision.specs.declared.Monitor.{Monitor}
 use Rattle.decision.specs.View.{view}
-use Rattle.decision.specs.Answers.{Made, AnswersRecord, AnswersCall}
+use Rattle.decision.specs.Answers.{Sound, IsFresh, AnswersRecord, AnswersCall}
 use Rattle.decision.specs.Logs.{codeOf, wordFrom}
 use Rattle.decision.specs.Chains.{callRecord, Holdable, ofBytes, Event, given, called, moves, stepOf, eventAt}
-use Rattle.hook.specs.Codes.{Coded, Given}
+use Rattle.hook.specs.Codes.{Coded, ItemsGiven}
 
 -- ---- the number n is the code of what the outcome answers, and tells it
 pub record Tells (n : ℕ) (o : Outcome) : Type 0 where
   pub code : n ≡ codeOf (answerOf o)
   pub word : wordFrom n ≡ answerOf o
 
--- whatever answer a promise of a code hides, the code tells the very answer, whatever the monitor
+-- whatever answer a promise of a code hides, the code tells the very answer, whatever the sound monitor
 unfoldable pub CodesTellAnswers : Type 0
 CodesTellAnswers =
-    ((m m′ : Monitor) (bytes : List ℕ) (n : ℕ) → Coded (AnswersRecord m bytes) n m′ → Tells n (outcome (view m) bytes))
-    × ((m m′ : Monitor) (kind p a b c n : ℕ) → Coded (AnswersCall m kind p a b c) n m′ → Tells n (outcome (view m) (callRecord kind p a b c)))
+    ((m m′ : Monitor) (bytes : List ℕ) (n : ℕ) → Coded (AnswersRecord m bytes) n m′ → Sound m → Tells n (outcome (view m) bytes))
+    × ((m m′ : Monitor) (kind p a b c n : ℕ) → Coded (AnswersCall m kind p a b c) n m′ → Sound m → Tells n (outcome (view m) (callRecord kind p a b c)))
 
 -- ---- a kernel's chain: x k is the monitor at moment k, and codes n what the function called at step n returned
 pub record KernelChain (events : List Event) (x : ℕ → Monitor) (codes : ℕ → ℕ) : Type 0 where
-  pub made : Made (x 0)
+  pub made : IsFresh (x 0)
   pub answers : (n : ℕ) (bytes : List ℕ) → eventAt events n ≡ given bytes → Coded (AnswersRecord (x n) bytes) (codes n) (x (suc n))
   pub calls : (n kind p d e f : ℕ) → eventAt events n ≡ called kind p d e f → Coded (AnswersCall (x n) kind p d e f) (codes n) (x (suc n))
   pub rests : (n : ℕ) → eventAt events n ≡ moves → x (suc n) ≡ x n
@@ -53,7 +52,7 @@ KernelChainExists = (events : List Event) → KernelChainOver events
 
 -- recorded as holding none of the chosen items: whatever set the items query may give has none of them
 unfoldable pub GivenWithout : (ℕ → Bool) → Monitor → ℕ → Type 0
-GivenWithout chosen m c = (before w : ℕ) → Given (itemsQuery (view m) c) before 0 w → (i : ℕ) → i < itemCount → chosen i ≡ true → has w i ≡ false
+GivenWithout chosen m c = (before w : ℕ) → ItemsGiven m c before 0 w → (i : ℕ) → i < itemCount → chosen i ≡ true → has w i ≡ false
 
 -- by moment j a rule that forbids container c item i was loaded: the code of its record tells "rule"
 pub record LoadedByCode (events : List Event) (codes : ℕ → ℕ) (j c i : ℕ) : Type 0 where
@@ -63,7 +62,9 @@ pub record LoadedByCode (events : List Event) (codes : ℕ → ℕ) (j c i : ℕ
   pub is-record : eventAt events place ≡ given bytes
   pub number : ℕ
   pub answered : wordFrom (codes place) ≡ rule number
-  pub forbidden : forbids (ruleOf bytes .condition) c i ≡ true
+  pub loaded : Rule
+  pub is-rule : reading bytes ≡ aRule loaded
+  pub forbidden : forbids (loaded .condition) c i ≡ true
 
 unfoldable pub LoadedForbidByCode : (ℕ → Bool) → List Event → (ℕ → ℕ) → ℕ → ℕ → Type 0
 LoadedForbidByCode chosen events codes j c = (i : ℕ) → i < itemCount → chosen i ≡ true → LoadedByCode events codes j c i

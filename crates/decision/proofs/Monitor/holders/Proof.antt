@@ -16,6 +16,5 @@ returns c =
     let c2 = c .before .before in
     c2 .holders-in .ensures _ _ _
 
-
 pub holders-spec : {M : Type 1} → statement M
 holders-spec = tie.close (tie.spec holders-in-requires same-length returns)

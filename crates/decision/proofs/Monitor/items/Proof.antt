@@ -11,6 +11,5 @@ returns : tie.Need-returns
 unfolding view
 returns c = c .items-in .ensures _ _ _
 
-
 pub items-spec : {M : Type 1} → statement M
 items-spec = tie.close (tie.spec items-in-requires returns)

@@ -13,6 +13,5 @@ returns : tie.Need-returns
 unfolding view mapsOf part rulesOf countOf table tableFrom fresh noTables
 returns c = refl
 
-
 pub new-spec : {M : Type 1} → statement M
 new-spec = tie.close (tie.spec returns)

@@ -85,7 +85,6 @@ returns-3 c =
     let a = c22 .args in
     stopped-call (monitor (a .words .now) (a .descriptors .now) (a .names .now) (a .sets .now) (a .fields .now)) (a .q) (long c17) (named c17) (c13 .refusal .result) (c13 .refusal .ensures) (c12 .if1 .left) _ (c8 .plan-of .ensures) _ (c6 .judge .ensures) (λ e. c4 .if2 .left (e ∙ sym (c5 .count .ensures))) _ (c .stop-in .ensures)
 
-
 pub call-in-spec : {M : Type 1} → statement M
 call-in-spec =
     tie.close

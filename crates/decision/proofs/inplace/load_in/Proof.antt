@@ -57,7 +57,6 @@ returns-4 c =
     let c9 = c8 .before in
     λ d n. rule-loaded _ _ _ (c9 .unfit .ensures) (c8 .if1 .left) _ (c6 .count .ensures) (c5 .if2 .left) _ (c4 .breaks-now .ensures) (c3 .if3 .left) _ _ (c .store .ensures)
 
-
 pub load-in-spec : {M : Type 1} → statement M
 load-in-spec =
     tie.close

@@ -103,7 +103,6 @@ returns-2 c =
     let c1 = c .before in
     run-end (c1 .loop .inv .0) (c .loop-test .left)
 
-
 pub run-in-spec : {M : Type 1} → statement M
 run-in-spec =
     tie.close

@@ -105,7 +105,6 @@ returns-4 c =
     let a = c23 .args in
     λ x e. stop-diverts (monitor (a .words .now) (a .descriptors .now) (a .names .now) (a .sets .now) (a .fields .now)) (a .q) x e (a .k) _ (c15 .substitute .ensures) _ (c13 .in-use .ensures) _ (c18 .action .ensures) (c16 .if1 .left) (c12 .if2 .left) (long c19) _ (c9 .items .ensures) _ (c7 .reach .ensures (a .descriptors .now) (a .names .now)) _ (c6 .giving .ensures) _ (c4 .judge .ensures) (c2 .if3 .left ∙ c3 .count .ensures) _ (c .make-items .ensures (a .descriptors .now) (a .names .now))
 
-
 pub stop-in-spec : {M : Type 1} → statement M
 stop-in-spec =
     tie.close

@@ -3,8 +3,8 @@ use mathlib.Core.Path.{refl}
 use Rattle.tracker.specs.Replies.{replyOf}
 use Rattle.hook.specs.Codes.{Given}
 use borrow.Author.Needs.{needs}
-use Rattle.hook.proofs.inplace.give.Statement.{statement}
-use Rattle.hook.proofs.inplace.give.Tie as tie
+use Rattle.hook.proofs.lent.give.Statement.{statement}
+use Rattle.hook.proofs.lent.give.Tie as tie
 
 enum-known-reply : tie.Need-enum-known-reply
 enum-known-reply c = search needs

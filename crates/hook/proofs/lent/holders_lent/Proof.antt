@@ -1,0 +1,29 @@
+-- `holders_lent` asks the tracker.
+use Rattle.decision.specs.View.{view}
+use Rattle.rules.specs.Stored.{rulesOf}
+use Rattle.hook.proofs.CodeLaws.{given-by}
+use borrow.Author.Needs.{needs}
+use Rattle.hook.proofs.lent.holders_lent.Statement.{statement}
+use Rattle.hook.proofs.lent.holders_lent.Tie as tie
+
+holders-in-requires : tie.Need-holders-in-requires
+holders-in-requires c κs = search needs
+
+give-requires : tie.Need-give-requires
+give-requires c κs = search needs
+
+same-length : tie.Need-same-length
+same-length c = search needs
+
+returns : tie.Need-returns
+unfolding view
+returns c =
+    let c4 = c .before .before .before .before in
+    let c7 = c4 .before .before .before in
+    let a = c7 .args in
+    let h = c4 .holders-in .ensures (a .descriptors .now) (a .names .now) (rulesOf (a .sets .now) (a .fields .now)) in
+    record { given = given-by _ _ (h .answer) _ _ _ (c .give .ensures); slice = h .slice }
+
+
+pub holders-lent-spec : {M : Type 1} → statement M
+holders-lent-spec = tie.close (tie.spec holders-in-requires give-requires same-length returns)
