@@ -1,21 +1,25 @@
 -- Document 01, What a record gets: the answers of the code.
-use Prim.Native.Nat.{ℕ, _%_}
+use Prim.Native.Nat.{ℕ}
 use mathlib.Core.Path.{_≡_}
+use mathlib.Core.Logic.{_↔_}
 use mathlib.Core.List.{List}
-use Rattle.flow.specs.Box.{processCount, fresh}
-use Rattle.flow.specs.Calls.{kindNumber, Call, change, after}
-use Rattle.flow.specs.Verdicts.{Outcome, Answer as Word, refused, rule, allow, inhibit, modify, answerOf, stateAfter, outcome}
+use mathlib.Core.Option.{none, some}
+use Rattle.flow.specs.Lists.{firstThat}
+use Rattle.flow.specs.Box.{fresh}
+use Rattle.flow.specs.Calls.{Call}
+use Rattle.flow.specs.Rules.{lowestBroken}
+use Rattle.flow.specs.Records.{Reading, aCall, callFrom, reading}
+use Rattle.flow.specs.Refusals.{testsOf}
+use Rattle.flow.specs.Verdicts.{Answer as Word, refused, rule, allow, inhibit, modify, stopped, outcomeOf, answerOf, stateAfter}
 use Rattle.flow.specs.Queries.{itemsQuery}
-use Rattle.records.specs.Reading.{aCall, outcomeOf}
 use Rattle.tracker.specs.declared.queries.Reply.{Reply}
 use Rattle.tracker.specs.Replies.{replyOf}
+use Rattle.rules.specs.Stored.{ruleAt}
 use Rattle.decision.specs.declared.Monitor.{Monitor}
 use Rattle.decision.specs.declared.Answer.{Answer}
 use Rattle.decision.specs.declared.Answer.the-variants.{Refused, Loaded, Allow, Inhibit, Modify}
 use Rattle.decision.specs.declared.Answered.{Answered}
-use Rattle.tracker.specs.declared.Tracker.{Tracker}
-use Rattle.tracker.specs.View.{view as trackerView}
-use Rattle.decision.specs.View.{rulesOf, view}
+use Rattle.decision.specs.View.{view}
 
 -- the word and the numbers of each answer
 unfoldable pub wordOf : Answer → Word
@@ -25,38 +29,42 @@ wordOf Allow = allow
 wordOf (Inhibit n) = inhibit n
 wordOf (Modify n c) = modify n c
 
--- The monitor m answers with the outcome o: the word and its numbers, the state after it, and where the record is refused or inhibited
--- the monitor that it met, equal field by field.
-pub record Answers (m : Monitor) (o : Outcome) (r : Answered) : Type 0 where
-  pub answer : wordOf (r .answer) ≡ answerOf o
-  pub state : view (r .monitor) ≡ stateAfter (view m) o
+-- No loaded rule is broken. This is the one condition that a monitor must meet: `Monitor::new` makes a sound one, and every answer leaves a
+-- sound one sound.
+unfoldable pub Sound : Monitor → Type 0
+Sound m = lowestBroken (view m) ≡ none
+
+-- What the monitor m answers to what was read, x. Of any monitor: the refusal is that of document 01's tests, and a refused or inhibited record
+-- gives back the monitor that it met, equal field by field. Of a sound one: word and numbers are those of document 01, and so is the state
+-- after it, which is sound again.
+pub record Answers (m : Monitor) (x : Reading) (r : Answered) : Type 0 where
+  pub refusal : (n : ℕ) → r .answer ≡ Refused n ↔ firstThat (testsOf (view m) x) ≡ some n
   pub refused-kept : (n : ℕ) → r .answer ≡ Refused n → r .monitor ≡ m
   pub inhibited-kept : (n : ℕ) → r .answer ≡ Inhibit n → r .monitor ≡ m
+  pub answer : Sound m → wordOf (r .answer) ≡ answerOf (outcomeOf (view m) x)
+  pub state : Sound m → view (r .monitor) ≡ stateAfter (view m) (outcomeOf (view m) x)
+  pub sound : Sound m → Sound (r .monitor)
 
 -- ---- what the public functions promise
 -- `Monitor::new`: a fresh tracker
-abbrev pub Made : Monitor → Type 0
-Made m = view m ≡ fresh
+abbrev pub IsFresh : Monitor → Type 0
+IsFresh m = view m ≡ fresh
 
 -- `Monitor::answer`: what the record at the front of the bytes gets
 abbrev pub AnswersRecord : Monitor → List ℕ → Answered → Type 0
-AnswersRecord m bytes r = Answers m (outcome (view m) bytes) r
+AnswersRecord m bytes r = Answers m (reading bytes) r
 
 -- `Monitor::call`: what a call of any five bytes gets (kind, process, a, b, c)
 abbrev pub AnswersCall : Monitor → ℕ → ℕ → ℕ → ℕ → ℕ → Answered → Type 0
-AnswersCall m kind p a b c r = Answers m (outcomeOf (view m) (aCall kind p a b c)) r
+AnswersCall m kind p a b c r = Answers m (aCall (callFrom kind p a b c)) r
 
 -- `Monitor::items`: the items of container c
 abbrev pub AnswersItems : Monitor → ℕ → Reply → Type 0
 AnswersItems m c r = replyOf r ≡ itemsQuery (view m) c
 
--- ---- what the functions below the answer go by
--- the call q has this kind and is of process p, taken by its remainder
-pub record Asked (q : Call) (kind p : ℕ) : Type 0 where
-  pub kind-is : kindNumber (q .kind) ≡ kind
-  pub process-is : q .process ≡ p % processCount
-
--- and it leads to the tracker t
-pub record WorkedOut (m : Monitor) (t : Tracker) (q : Call) (kind p : ℕ) : Type 0 where
-  pub asked : Asked q kind p
-  pub leads-to : trackerView t (rulesOf m) ≡ after (view m) (change (view m) q)
+-- ---- a call that rule number k stops (01, What a record gets): diverted or inhibited
+pub record AnswersStopped (m : Monitor) (q : Call) (k : ℕ) (r : Answered) : Type 0 where
+  pub unrefused : (n : ℕ) → r .answer ≡ Refused n → ⊥
+  pub inhibited-kept : (n : ℕ) → r .answer ≡ Inhibit n → r .monitor ≡ m
+  pub answer : Sound m → wordOf (r .answer) ≡ answerOf (stopped (view m) q k (ruleAt (m .sets) (m .fields) k))
+  pub state : Sound m → view (r .monitor) ≡ stateAfter (view m) (stopped (view m) q k (ruleAt (m .sets) (m .fields) k))

@@ -12,9 +12,9 @@ use Rattle.flow.specs.TwoRuns.{Agree}
 use Rattle.decision.specs.declared.Monitor.{Monitor}
 use Rattle.decision.specs.declared.Answer.{Answer}
 use Rattle.decision.specs.declared.Answered.{Answered}
-use Rattle.decision.specs.Answers.{Made, AnswersRecord, AnswersCall}
+use Rattle.decision.specs.Answers.{IsFresh, AnswersRecord, AnswersCall}
 use Rattle.decision.specs.Logs.{inBytes}
-use Rattle.decision.specs.TwoRuns.{Chain, RecordedWithout, LoadedForbid}
+use Rattle.decision.specs.TwoRuns.{Chain, AnswersWithout, RulesLoadedForbid}
 
 -- ---- the values of the code's types
 -- n numbers below the limit
@@ -24,18 +24,11 @@ pub record Numbers (n limit : ℕ) (l : List ℕ) : Type 0 where
 
 -- what the code's `Monitor` can hold: arrays of its lengths, of numbers of its widths
 pub record Holdable (m : Monitor) : Type 0 where
-  pub live : m .tracker .live < 2 ^ 64
-  pub held : Numbers 64 (2 ^ 64) (m .tracker .items)
-  pub feeders : Numbers 16 (2 ^ 64) (m .tracker .feeders)
-  pub fed : Numbers 16 (2 ^ 64) (m .tracker .fed)
-  pub descriptors : Numbers 512 256 (m .tracker .descriptors)
-  pub names : Numbers 128 256 (m .tracker .names)
-  pub tags : Numbers 32 256 (m .tags)
-  pub items : Numbers 32 256 (m .items)
+  pub words : Numbers 97 (2 ^ 64) (m .words)
+  pub descriptors : Numbers 512 256 (m .descriptors)
+  pub names : Numbers 128 256 (m .names)
   pub sets : Numbers 32 (2 ^ 64) (m .sets)
-  pub actions : Numbers 32 256 (m .actions)
-  pub substitutes : Numbers 32 256 (m .substitutes)
-  pub loaded : m .loaded < 256
+  pub fields : Numbers 129 256 (m .fields)
 
 -- a record of bytes
 unfoldable pub ofBytes : Step → Type 0
@@ -78,7 +71,7 @@ eventAt events n = getD events n moves
 
 -- a chain whose steps are records, answered by `Monitor::answer`, and calls, answered by `Monitor::call`
 pub record MixedChain (events : List Event) (x : ℕ → Monitor) (a : ℕ → Answer) : Type 0 where
-  pub made : Made (x 0)
+  pub made : IsFresh (x 0)
   pub answers : (n : ℕ) (bytes : List ℕ) → eventAt events n ≡ given bytes → AnswersRecord (x n) bytes (record { answer = a n; monitor = x (suc n) })
   pub calls : (n kind p d e f : ℕ) → eventAt events n ≡ called kind p d e f → AnswersCall (x n) kind p d e f (record { answer = a n; monitor = x (suc n) })
   pub rests : (n : ℕ) → eventAt events n ≡ moves → x (suc n) ≡ x n
@@ -96,5 +89,5 @@ Demand3OfHook =
     → (x y : ℕ → Monitor) (a b : ℕ → Answer) → MixedChain events x a → MixedChain events y b
     → (let steps = map stepOf events in
     (k : ℕ) → k ≤ length events → (c : ℕ) → c < containerCount
-    → (RecordedWithout chosen (x k) c ⊎ RecordedWithout chosen (y k) c → runAt m in₁ steps k .contents c ≡ runAt m in₂ steps k .contents c)
-    × ((j : ℕ) → j ≤ k → LoadedForbid chosen steps a j c ⊎ LoadedForbid chosen steps b j c → runAt m in₁ steps k .contents c ≡ runAt m in₂ steps k .contents c))
+    → (AnswersWithout chosen (x k) c ⊎ AnswersWithout chosen (y k) c → runAt m in₁ steps k .contents c ≡ runAt m in₂ steps k .contents c)
+    × ((j : ℕ) → j ≤ k → RulesLoadedForbid chosen steps a j c ⊎ RulesLoadedForbid chosen steps b j c → runAt m in₁ steps k .contents c ≡ runAt m in₂ steps k .contents c))

@@ -1,5 +1,3 @@
-pub mod Judging
-pub mod Loading
 pub mod View
 pub mod Answers
 pub mod Logs

@@ -2,18 +2,19 @@
 use Prim.Native.Nat.{ℕ, _+_, _*_, _/_, _%_, _<_}
 use mathlib.Core.Path.{_≡_}
 use mathlib.Core.Bool.{Bool, true, false}
-use mathlib.Core.List.{List, [], _∷_, _++_}
+use mathlib.Core.List.{List, [], _∷_}
 use lib.Dec.{leb, eqb}
-use lib.ListN.{length, drop}
+use lib.ListN.{length, take, drop}
+use Rattle.flow.specs.Records.{recordsOf}
 use Rattle.flow.specs.Verdicts.{Answer as Word, refused, rule, allow, inhibit, modify, runLog}
 use Rattle.flow.specs.Queries.{refuse, result}
 use Rattle.tracker.specs.Replies.{replyOf}
 use Rattle.decision.specs.declared.Monitor.{Monitor}
 use Rattle.decision.specs.declared.Answer.{Answer}
 use Rattle.decision.specs.declared.Answer.the-variants.{Refused, Loaded, Allow, Inhibit, Modify}
-use Rattle.decision.specs.declared.Ran.{Ran}
+use Rattle.decision.specs.declared.RunResult.{RunResult}
 use Rattle.decision.specs.View.{view}
-use Rattle.decision.specs.Answers.{wordOf}
+use Rattle.decision.specs.Answers.{wordOf, Sound}
 
 -- the code of an answer: its word, then its numbers, from the lowest byte on; a rule's number is below 32, a substitute below 64
 unfoldable pub codeOf : Word → ℕ
@@ -49,30 +50,23 @@ inBytes (Modify n c) = (n < 256) × (c < 256)
 unfoldable pub CodesTell : Type 0
 CodesTell = (a : Answer) → inBytes a → wordFrom (codeOf (wordOf a)) ≡ wordOf a
 
--- whether it is known that no rule is broken, after an answer: a call that passed leaves none broken, one that was stopped changed nothing
-unfoldable pub cleanAfter : Bool → Word → Bool
-cleanAfter clean allow = true
-cleanAfter clean (inhibit n) = clean
-cleanAfter clean (modify n c) = true
-cleanAfter clean (rule n) = false
-cleanAfter clean (refused n) = clean
-
 unfoldable pub codesOf : List Word → List ℕ
 codesOf [] = []
 codesOf (a ∷ rest) = codeOf a ∷ codesOf rest
 
 -- the slice has room for one code a record
-unfoldable pub roomFor : Monitor → List ℕ → List ℕ → Bool
-roomFor m log slice = leb (length (runLog (view m) log .answers)) (length slice)
+unfoldable pub roomFor : List ℕ → List ℕ → Bool
+roomFor log slice = leb (length (recordsOf log)) (length slice)
 
--- The log on the monitor m: the number of its answers, their codes at the front of the slice, the rest of which keeps its numbers, and the
--- state after all records. 13 where the slice is shorter; then nothing changes.
-unfoldable pub RunsBy : Bool → Monitor → List ℕ → List ℕ → Ran → List ℕ → Type 0
-RunsBy true m log before r after =
-    (replyOf (r .reply) ≡ result (length (runLog (view m) log .answers)))
-    × (view (r .monitor) ≡ runLog (view m) log .state)
-    × (after ≡ codesOf (runLog (view m) log .answers) ++ drop (length (runLog (view m) log .answers)) before)
-RunsBy false m log before r after = (replyOf (r .reply) ≡ refuse 13) × (r .monitor ≡ m) × (after ≡ before)
+-- The log on the monitor m: the number of its records, and the slice behind as many numbers as it was. Of a sound monitor: the codes of their
+-- answers at the front of the slice, and the state after all of them, which is sound again. 13 where the slice is shorter; then nothing changes.
+unfoldable pub AnswersLogBy : Bool → Monitor → List ℕ → List ℕ → RunResult → List ℕ → Type 0
+AnswersLogBy true m log before r after =
+    (replyOf (r .reply) ≡ result (length (recordsOf log)))
+    × (length after ≡ length before)
+    × (drop (length (recordsOf log)) after ≡ drop (length (recordsOf log)) before)
+    × (Sound m → (take (length (recordsOf log)) after ≡ codesOf (runLog (view m) log .answers)) × (view (r .monitor) ≡ runLog (view m) log .state) × Sound (r .monitor))
+AnswersLogBy false m log before r after = (replyOf (r .reply) ≡ refuse 13) × (r .monitor ≡ m) × (after ≡ before)
 
-unfoldable pub Runs : Monitor → List ℕ → List ℕ → Ran → List ℕ → Type 0
-Runs m log before r after = RunsBy (roomFor m log before) m log before r after
+unfoldable pub AnswersLog : Monitor → List ℕ → List ℕ → RunResult → List ℕ → Type 0
+AnswersLog m log before r after = AnswersLogBy (roomFor log before) m log before r after

@@ -1,31 +1,27 @@
 // The decision point: the rules above the tracker, verdicts, and what a record gets (document 01, What a record gets).
-mod judging;
+pub mod inplace;
 pub mod logs;
-pub mod parts;
-mod rules;
 
-ghost use Rattle.tracker.specs.Replies.{Answered as HoldersAnswered};
+ghost use Rattle.tracker.specs.Replies.{AnswersHolders};
 ghost use Rattle.decision.specs.View.{view};
-ghost use Rattle.decision.specs.Logs.{Runs};
-ghost use Rattle.decision.specs.Answers.{Made, AnswersRecord, AnswersCall, AnswersItems};
-use parts::answer_in;
-use parts::call_in;
-use parts::run_in;
+ghost use Rattle.decision.specs.Logs.{AnswersLog};
+ghost use Rattle.decision.specs.Answers.{IsFresh, AnswersRecord, AnswersCall, AnswersItems};
+use inplace::answer_in;
+use inplace::call_in;
+use inplace::run_in;
+use tracker::Call;
 use tracker::Tracker;
-use tracker::parts::restore;
-use tracker::parts::saved;
+use tracker::queries;
 use tracker::queries::Reply;
 
-// A tracker with its rules: what document 01 calls a tracker. A rule's number is its place in the five tables.
+// A tracker with its rules: what document 01 calls a tracker. Its layout is C's, for callers that keep it in their own memory.
 #[repr(C)]
 pub struct Monitor {
-    tracker: Tracker,
-    tags: [u8; 32],
-    items: [u8; 32],
+    words: [u64; 97],
+    descriptors: [u8; 512],
+    names: [u8; 128],
     sets: [u64; 32],
-    actions: [u8; 32],
-    substitutes: [u8; 32],
-    loaded: u8,
+    fields: [u8; 129],
 }
 
 // What a record gets.
@@ -43,7 +39,7 @@ pub struct Answered {
 }
 
 // What a log gets: the number of its answers, or 13 where the lent slice is shorter; and the monitor after it.
-pub struct Ran {
+pub struct RunResult {
     pub reply: Reply,
     pub monitor: Monitor,
 }
@@ -53,16 +49,14 @@ impl Monitor {
 
     // A fresh tracker and no rules.
     pub fn new() -> Monitor
-        ensures { λ r. ⌜ Made r ⌝ }
+        ensures { λ r. ⌜ IsFresh r ⌝ }
     {
         Monitor {
-            tracker: Tracker::new(),
-            tags: [0u8; 32],
-            items: [0u8; 32],
+            words: [0u64; 97],
+            descriptors: [Tracker::CLOSED; 512],
+            names: [Tracker::CLOSED; 128],
             sets: [0u64; 32],
-            actions: [0u8; 32],
-            substitutes: [0u8; 32],
-            loaded: 0,
+            fields: [0u8; 129],
         }
     }
 
@@ -70,74 +64,36 @@ impl Monitor {
     pub fn items(self, c: u8) -> Reply
         ensures { λ r. ⌜ AnswersItems self c r ⌝ }
     {
-        let t = self.tracker;
-        t.items(c)
+        let words = self.words;
+        queries::items_in(&words, c)
     }
 
     // The containers that hold item i, at the front of `out`, and how many they are. A refusal leaves `out` as it was.
     pub fn holders(self, i: u8, out: &mut [u16]) -> Reply
-        ensures { λ r. ⌜ HoldersAnswered (view self) i (now (out .entry)) r (now (out .exit)) ⌝ }
+        ensures { λ r. ⌜ AnswersHolders (view self) i (now (out .entry)) r (now (out .exit)) ⌝ }
     {
-        let t = self.tracker;
-        t.holders(i, out)
+        let words = self.words;
+        queries::holders_in(&words, i, out)
     }
 
     // What a call of any five bytes gets.
-    pub fn call(self, kind: u8, p: u8, a: u8, b: u8, c: u8) -> Answered
-        ensures { λ r. ⌜ AnswersCall self kind p a b c r ⌝ }
+    pub fn call(self, q: Call) -> Answered
+        ensures { λ r. ⌜ AnswersCall self (q .kind) (q .process) (q .a) (q .b) (q .c) r ⌝ }
     {
-        let mut live = 0u64;
-        let mut items = [0u64; 64];
-        let mut feeders = [0u64; 16];
-        let mut fed = [0u64; 16];
-        let mut descriptors = [0u8; 512];
-        let mut names = [0u8; 128];
-        let t = self.tracker;
-        restore(
-            &mut live,
-            &mut items,
-            &mut feeders,
-            &mut fed,
-            &mut descriptors,
-            &mut names,
-            t,
-        );
-        let tags = self.tags;
-        let ruled = self.items;
+        let mut words = self.words;
+        let mut descriptors = self.descriptors;
+        let mut names = self.names;
         let sets = self.sets;
-        let actions = self.actions;
-        let substitutes = self.substitutes;
-        let loaded = self.loaded;
-        let answer = call_in(
-            &mut live,
-            &mut items,
-            &mut feeders,
-            &mut fed,
-            &mut descriptors,
-            &mut names,
-            &tags,
-            &ruled,
-            &sets,
-            &actions,
-            &substitutes,
-            loaded,
-            kind,
-            p,
-            a,
-            b,
-            c,
-        );
-        let after = saved(live, &items, &feeders, &fed, &descriptors, &names);
+        let fields = self.fields;
+        let answer = call_in(&mut words, &mut descriptors, &mut names, &sets, &fields, q);
         Answered {
             answer,
             monitor: Monitor {
-                tracker: after,
-                tags,
-                items: ruled,
+                words,
+                descriptors,
+                names,
                 sets,
-                actions,
-                substitutes,
-                loaded,
+                fields,
             },
         }
     }
@@ -146,111 +102,57 @@ impl Monitor {
     pub fn answer(self, bytes: &[u8]) -> Answered
         ensures { λ r. ⌜ AnswersRecord self (now (bytes .entry)) r ⌝ }
     {
-        let mut live = 0u64;
-        let mut items = [0u64; 64];
-        let mut feeders = [0u64; 16];
-        let mut fed = [0u64; 16];
-        let mut descriptors = [0u8; 512];
-        let mut names = [0u8; 128];
-        let t = self.tracker;
-        restore(
-            &mut live,
-            &mut items,
-            &mut feeders,
-            &mut fed,
-            &mut descriptors,
-            &mut names,
-            t,
-        );
-        let mut tags = self.tags;
-        let mut ruled = self.items;
+        let mut words = self.words;
+        let mut descriptors = self.descriptors;
+        let mut names = self.names;
         let mut sets = self.sets;
-        let mut actions = self.actions;
-        let mut substitutes = self.substitutes;
-        let mut loaded = self.loaded;
+        let mut fields = self.fields;
         let answer = answer_in(
-            &mut live,
-            &mut items,
-            &mut feeders,
-            &mut fed,
+            &mut words,
             &mut descriptors,
             &mut names,
-            &mut tags,
-            &mut ruled,
             &mut sets,
-            &mut actions,
-            &mut substitutes,
-            &mut loaded,
+            &mut fields,
             bytes,
         );
-        let after = saved(live, &items, &feeders, &fed, &descriptors, &names);
         Answered {
             answer,
             monitor: Monitor {
-                tracker: after,
-                tags,
-                items: ruled,
+                words,
+                descriptors,
+                names,
                 sets,
-                actions,
-                substitutes,
-                loaded,
+                fields,
             },
         }
     }
 
     // Answers the records of a log in order. Each answer goes to the front of `codes` as a number.
-    pub fn run(self, log: &[u8], codes: &mut [u32]) -> Ran
-        ensures { λ r. ⌜ Runs self (now (log .entry)) (now (codes .entry)) r (now (codes .exit)) ⌝ }
+    pub fn run(self, log: &[u8], codes: &mut [u32]) -> RunResult
+        ensures { λ r. ⌜ AnswersLog self (now (log .entry)) (now (codes .entry)) r (now (codes .exit)) ⌝ }
     {
-        let mut live = 0u64;
-        let mut items = [0u64; 64];
-        let mut feeders = [0u64; 16];
-        let mut fed = [0u64; 16];
-        let mut descriptors = [0u8; 512];
-        let mut names = [0u8; 128];
-        let t = self.tracker;
-        restore(
-            &mut live,
-            &mut items,
-            &mut feeders,
-            &mut fed,
-            &mut descriptors,
-            &mut names,
-            t,
-        );
-        let mut tags = self.tags;
-        let mut ruled = self.items;
+        let mut words = self.words;
+        let mut descriptors = self.descriptors;
+        let mut names = self.names;
         let mut sets = self.sets;
-        let mut actions = self.actions;
-        let mut substitutes = self.substitutes;
-        let mut loaded = self.loaded;
+        let mut fields = self.fields;
         let reply = run_in(
-            &mut live,
-            &mut items,
-            &mut feeders,
-            &mut fed,
+            &mut words,
             &mut descriptors,
             &mut names,
-            &mut tags,
-            &mut ruled,
             &mut sets,
-            &mut actions,
-            &mut substitutes,
-            &mut loaded,
+            &mut fields,
             log,
             codes,
         );
-        let after = saved(live, &items, &feeders, &fed, &descriptors, &names);
-        Ran {
+        RunResult {
             reply,
             monitor: Monitor {
-                tracker: after,
-                tags,
-                items: ruled,
+                words,
+                descriptors,
+                names,
                 sets,
-                actions,
-                substitutes,
-                loaded,
+                fields,
             },
         }
     }

@@ -5,7 +5,7 @@ ghost use mathlib.Core.Path.{_≡_};
 ghost use lib.ListN.{length};
 ghost use Rattle.flow.specs.Records.{recordsOf};
 ghost use Rattle.decision.specs.Answers.{wordOf};
-ghost use Rattle.decision.specs.Logs.{codeOf, cleanAfter};
+ghost use Rattle.decision.specs.Logs.{codeOf};
 
 // The number of records in a log.
 pub fn records_in(log: &[u8]) -> usize
@@ -30,19 +30,5 @@ pub fn code(answer: Answer) -> u32
         Answer::Modify(n, c) => 2 + 256 * (n as u32) + 65536 * (c as u32),
         Answer::Loaded(n) => 3 + 256 * (n as u32),
         Answer::Refused(n) => 4 + 256 * (n as u32),
-    }
-}
-
-// Whether it is known that no rule is broken, after an answer; `clean` says it of the state before. A call that passed leaves none
-// broken, one that was stopped changed nothing, and of a new rule nothing is asked here.
-pub fn clean_after(clean: bool, answer: Answer) -> bool
-    ensures { λ r. ⌜ r ≡ cleanAfter clean (wordOf answer) ⌝ }
-{
-    match answer {
-        Answer::Allow => true,
-        Answer::Inhibit(n) => clean,
-        Answer::Modify(n, c) => true,
-        Answer::Loaded(n) => false,
-        Answer::Refused(n) => clean,
     }
 }

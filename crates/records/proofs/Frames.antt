@@ -9,12 +9,11 @@ use lib.Dec.{eqb}
 use lib.ListN.{getD, length, take, drop}
 use lib.Seq.{drop-cons}
 use borrow.Author.Tests.{ltb-false, not-false, eqb-true, eqb-false, eq-eqb, ne-eqb}
-use Rattle.flow.specs.Lists.{tableFrom, _⇒_, firstThat}
-use Rattle.flow.specs.Box.{forbid, separate, confine, Rule}
-use Rattle.flow.specs.Records.{byteAt, tagOf, callTag, forbidTag, separateTag, statedLength, recordLength, valueOf, cutShort, knownTag, tagLength, wrongLength, numberFrom, setIn, ruleWith, ruleOf}
+use Rattle.flow.specs.Lists.{tableFrom, _⇒_, firstThat, refusalFrom}
+use Rattle.flow.specs.Box.{Condition, forbid, separate, confine, Rule}
+use Rattle.flow.specs.Records.{byteAt, tagOf, callTag, forbidTag, separateTag, statedLength, recordLength, valueOf, cutShort, knownTag, tagLength, wrongLength, callFrom, callIn, conditionOf, numberFrom, setIn, ruleWith, ruleIn, unreadable, aCall, aRule, frameTests, contentOf, readingBy, reading}
 use Rattle.flow.proofs.Bools.{chosen-l, chosen-r}
 use Rattle.flow.proofs.TableLaws.{AllFalse, all-false}
-use Rattle.records.specs.Reading.{unreadable, aCall, aRule, frameTests, callFields, readingBy, reading, refusalOf}
 
 -- the three tests, each by its value
 pub framed : (bytes : List ℕ) (x y z : Bool) → cutShort bytes ≡ x → knownTag (tagOf bytes) ≡ y → wrongLength bytes ≡ z
@@ -39,8 +38,8 @@ part zero k l h = refl
 part (suc n) k l h = rw (drop-cons l k 0 (omega arith)) (ap (λ (t : List ℕ). getD l k 0 ∷ t) (part n (suc k) l (omega arith)))
 
 -- a refusal's number is read as that refusal
-pub unread : (bytes : List ℕ) (n : ℕ) → (n ≡ 0 → ⊥) → refusalOf n ≡ firstThat (frameTests bytes) → unreadable n ≡ reading bytes
-unfolding refusalOf reading readingBy
+pub unread : (bytes : List ℕ) (n : ℕ) → (n ≡ 0 → ⊥) → refusalFrom n ≡ firstThat (frameTests bytes) → unreadable n ≡ reading bytes
+unfolding refusalFrom reading readingBy
 unread bytes zero h e = absurd (h refl)
 unread bytes (suc n) h e = rw (← e)
 
@@ -59,24 +58,19 @@ module _ (bytes : List ℕ) (whole : firstThat (frameTests bytes) ≡ none) wher
       let fits : 3 + statedLength bytes ≤ length bytes = ltb-false _ _ (frame .0) in
       rw stated (part n 3 bytes (omega arith))
 
-  reads-call : eqb (tagOf bytes) callTag ≡ true → reading bytes ≡ callFields (valueOf bytes)
+  reads-content : reading bytes ≡ contentOf bytes
   unfolding reading readingBy
-  reads-call e = ap (readingBy bytes) whole ∙ chosen-l (eqb (tagOf bytes) callTag) _ _ e
+  reads-content = ap (readingBy bytes) whole
 
-  reads-rule : eqb (tagOf bytes) callTag ≡ false → reading bytes ≡ aRule (ruleOf bytes)
-  unfolding reading readingBy
-  reads-rule e = ap (readingBy bytes) whole ∙ chosen-r (eqb (tagOf bytes) callTag) _ _ e
-
-  pub call-read : tagOf bytes ≡ callTag → reading bytes ≡ aCall (byteAt bytes 3) (byteAt bytes 4) (byteAt bytes 5) (byteAt bytes 6) (byteAt bytes 7)
-  unfolding callFields tableFrom tagLength byteAt
-  call-read e =
-      let is : eqb (tagOf bytes) callTag ≡ true = eq-eqb (tagOf bytes) callTag e in
-      reads-call is ∙ ap callFields (value 5 (rw e))
+  pub call-read : tagOf bytes ≡ callTag → reading bytes ≡ aCall (callFrom (byteAt bytes 3) (byteAt bytes 4) (byteAt bytes 5) (byteAt bytes 6) (byteAt bytes 7))
+  unfolding contentOf callIn tableFrom tagLength byteAt
+  call-read e = reads-content ∙ chosen-l (eqb (tagOf bytes) callTag) _ _ (eq-eqb (tagOf bytes) callTag e) ∙ ap (λ (v : List ℕ). aCall (callIn v)) (value 5 (rw e))
 
   -- a rule, once its tag is told
-  rule-read : (n : ℕ) (f : List ℕ → Rule) → (tagOf bytes ≡ callTag → ⊥) → n ≡ tagLength (tagOf bytes) → ruleOf bytes ≡ f (valueOf bytes)
+  rule-read : (n : ℕ) (f : List ℕ → Rule) → (tagOf bytes ≡ callTag → ⊥) → n ≡ tagLength (tagOf bytes) → ruleIn (tagOf bytes) (valueOf bytes) ≡ f (valueOf bytes)
       → reading bytes ≡ aRule (f (tableFrom n 3 (byteAt bytes)))
-  rule-read n f h l e = reads-rule (ne-eqb (tagOf bytes) callTag h) ∙ ap aRule (e ∙ ap f (value n l))
+  unfolding contentOf
+  rule-read n f h l e = reads-content ∙ chosen-r (eqb (tagOf bytes) callTag) _ _ (ne-eqb (tagOf bytes) callTag h) ∙ ap aRule (e ∙ ap f (value n l))
 
   -- a tag that isn't a call's
   other : (n : ℕ) → tagOf bytes ≡ n → eqb n callTag ≡ false → tagOf bytes ≡ callTag → ⊥
@@ -84,20 +78,19 @@ module _ (bytes : List ℕ) (whole : firstThat (frameTests bytes) ≡ none) wher
 
   pub forbid-read : tagOf bytes ≡ forbidTag
       → reading bytes ≡ aRule (record { condition = forbid (byteAt bytes 3) (numberFrom 0 (tableFrom 8 4 (byteAt bytes))); action = byteAt bytes 12; substitute = byteAt bytes 13 })
-  unfolding ruleOf setIn ruleWith tableFrom tagLength byteAt
-  forbid-read e =
-      rule-read 11 (λ v. ruleWith (forbid (byteAt v 0) (setIn v)) v 9) (other forbidTag e refl) (rw e) (chosen-l (eqb (tagOf bytes) forbidTag) _ _ (eq-eqb (tagOf bytes) forbidTag e))
+  unfolding ruleIn conditionOf setIn ruleWith tableFrom tagLength byteAt
+  forbid-read e = rule-read 11 (λ v. ruleWith (forbid (byteAt v 0) (setIn v)) v 9) (other forbidTag e refl) (rw e) (rw e)
 
   pub separate-read : tagOf bytes ≡ separateTag
       → reading bytes ≡ aRule (record { condition = separate (byteAt bytes 3) (byteAt bytes 4); action = byteAt bytes 5; substitute = byteAt bytes 6 })
-  unfolding ruleOf ruleWith tableFrom tagLength byteAt
-  separate-read e =
-      rule-read 4 (λ v. ruleWith (separate (byteAt v 0) (byteAt v 1)) v 2) (other separateTag e refl) (rw e)
-      (chosen-r (eqb (tagOf bytes) forbidTag) _ _ (rw e) ∙ chosen-l (eqb (tagOf bytes) separateTag) _ _ (eq-eqb (tagOf bytes) separateTag e))
+  unfolding ruleIn conditionOf ruleWith tableFrom tagLength byteAt
+  separate-read e = rule-read 4 (λ v. ruleWith (separate (byteAt v 0) (byteAt v 1)) v 2) (other separateTag e refl) (rw e) (rw e)
 
   pub confine-read : (tagOf bytes ≡ callTag → ⊥) → (tagOf bytes ≡ forbidTag → ⊥) → (tagOf bytes ≡ separateTag → ⊥)
       → reading bytes ≡ aRule (record { condition = confine (byteAt bytes 3) (numberFrom 0 (tableFrom 8 4 (byteAt bytes))); action = byteAt bytes 12; substitute = byteAt bytes 13 })
-  unfolding ruleOf setIn ruleWith tableFrom byteAt
+  unfolding ruleIn conditionOf setIn ruleWith tableFrom byteAt
   confine-read h k m =
       rule-read 11 (λ v. ruleWith (confine (byteAt v 0) (setIn v)) v 9) h (length-other (tagOf bytes) h m)
-      (chosen-r (eqb (tagOf bytes) forbidTag) _ _ (ne-eqb (tagOf bytes) forbidTag k) ∙ chosen-r (eqb (tagOf bytes) separateTag) _ _ (ne-eqb (tagOf bytes) separateTag m))
+      (chosen-r (eqb (tagOf bytes) separateTag) _ _ (ne-eqb (tagOf bytes) separateTag m)
+      ∙ ap (λ (c : Condition). ruleWith c (valueOf bytes) 9)
+      (chosen-r (eqb (tagOf bytes) forbidTag) _ _ (ne-eqb (tagOf bytes) forbidTag k) ∙ chosen-r (eqb (tagOf bytes) separateTag) _ _ (ne-eqb (tagOf bytes) separateTag m)))

@@ -1,4 +1,4 @@
--- What a record gets goes by its reading alone, and a log goes record by record.
+-- The record at the front reads the same without what follows it, and a log goes record by record.
 use Prim.Native.Nat.{ℕ, zero, suc, _+_, _*_, _-_, _≤_, _<_}
 use native.Mathlib.Nat.{le-refl}
 use native.Mathlib.Omega.{arith}
@@ -10,63 +10,13 @@ use lib.Dec.{eqb}
 use lib.ListN.{length, take, drop, length-drop}
 use lib.Seq.{take-all, take-length, drop-length, getD-take, length-take-le, take-add, drop-at, take-take}
 use borrow.Author.Tests.{ltb-false, le-ltb}
-use Rattle.flow.specs.Lists.{Test, _⇒_, firstThat}
+use Rattle.flow.specs.Lists.{firstThat}
 use Rattle.flow.specs.Box.{State}
-use Rattle.flow.specs.Calls.{Kind, Call}
-use Rattle.flow.specs.Records.{byteAt, tagOf, callTag, statedLength, recordLength, valueOf, cutShort, knownTag, wrongLength, kindOf, callIn, callFrom, callOf, ruleOf, recordsIn, recordsOf}
-use Rattle.flow.specs.Refusals.{callTests, ruleTests, testsByTag, recordTests, refusal}
-use Rattle.flow.specs.Verdicts.{accepted, outcomeBy, outcome, answer, next, answerAll, runLog}
+use Rattle.flow.specs.Records.{byteAt, tagOf, statedLength, recordLength, valueOf, cutShort, knownTag, wrongLength, frameTests, contentOf, readingBy, reading, recordsIn, recordsOf}
+use Rattle.flow.specs.Verdicts.{outcomeOf, outcome, answer, next, answerAll, runLog}
 use Rattle.flow.proofs.Bools.{choice, choices, chosen-l, chosen-r}
-use Rattle.records.specs.Reading.{Reading, aRule, frameTests, callFields, readingBy, reading, extentOf, outcomeOfCall, outcomeOfRule, outcomeOf}
+use Rattle.records.specs.Reading.{extentOf}
 use Rattle.records.proofs.Frames.{framed}
-
--- ---- what a record gets
-module _ (s : State) (bytes : List ℕ) where
-  of-call : (q : Option Call) → callOf bytes ≡ q → outcomeBy s bytes (firstThat (callTests s q)) ≡ outcomeOfCall s q (firstThat (callTests s q))
-  unfolding outcomeOfCall outcomeBy accepted callTests firstThat
-  of-call none e = refl
-  of-call (some q) e = by-test (firstThat (callTests s (some q)))
-    where
-      by-test : (o : Option ℕ) → outcomeBy s bytes o ≡ outcomeOfCall s (some q) o
-      by-test (some n) = refl
-      by-test none = ap (accepted s bytes) e
-
-  -- without a call's tag there is no call
-  of-rule : eqb (tagOf bytes) callTag ≡ false → (o : Option ℕ) → outcomeBy s bytes o ≡ outcomeOfRule s (ruleOf bytes) o
-  unfolding outcomeOfRule outcomeBy accepted callOf
-  of-rule e (some n) = refl
-  of-rule e none = ap (accepted s bytes) (chosen-r (eqb (tagOf bytes) callTag && not (cutShort bytes) && not (wrongLength bytes)) _ none (rw e refl))
-
-  -- the call in a whole record, by its five fields
-  by-fields : (v : List ℕ) → callIn v (kindOf (byteAt v 0)) ≡ callFrom (byteAt v 0) (byteAt v 1) (byteAt v 2) (byteAt v 3) (byteAt v 4)
-  unfolding callFrom callIn byteAt
-  by-fields v = go (kindOf (byteAt v 0))
-    where
-      go : (o : Option Kind) → callIn v o ≡ callIn (byteAt v 0 ∷ byteAt v 1 ∷ byteAt v 2 ∷ byteAt v 3 ∷ byteAt v 4 ∷ []) o
-      go none = refl
-      go (some k) = refl
-
-  by-tag : (b : Bool) → eqb (tagOf bytes) callTag ≡ b → cutShort bytes ≡ false → wrongLength bytes ≡ false
-      → outcomeBy s bytes (firstThat (elim b as (λ z. List Test) [ true ↦ callTests s (callOf bytes) | false ↦ ruleTests s (ruleOf bytes) ]))
-      ≡ outcomeOf s (elim b as (λ z. Reading) [ true ↦ callFields (valueOf bytes) | false ↦ aRule (ruleOf bytes) ])
-  unfolding outcomeOf callFields callOf
-  by-tag true e c w =
-      let q : callOf bytes ≡ callFrom (byteAt (valueOf bytes) 0) (byteAt (valueOf bytes) 1) (byteAt (valueOf bytes) 2) (byteAt (valueOf bytes) 3) (byteAt (valueOf bytes) 4) =
-      chosen-l (eqb (tagOf bytes) callTag && not (cutShort bytes) && not (wrongLength bytes)) _ none (rw (e, c, w) refl) ∙ by-fields (valueOf bytes) in
-      ap (λ (o : Option Call). outcomeBy s bytes (firstThat (callTests s o))) q ∙ of-call _ q
-  by-tag false e c w = of-rule e (firstThat (ruleTests s (ruleOf bytes)))
-
-  by-frame : (x y z : Bool) → cutShort bytes ≡ x → wrongLength bytes ≡ z
-      → outcomeBy s bytes (firstThat ((x ⇒ 1) ∷ (y ⇒ 2) ∷ (z ⇒ 3) ∷ testsByTag s bytes)) ≡ outcomeOf s (readingBy bytes (firstThat ((x ⇒ 1) ∷ (y ⇒ 2) ∷ (z ⇒ 3) ∷ [])))
-  unfolding firstThat outcomeBy outcomeOf readingBy testsByTag
-  by-frame true y z c w = refl
-  by-frame false true z c w = refl
-  by-frame false false true c w = refl
-  by-frame false false false c w = by-tag (eqb (tagOf bytes) callTag) refl c w
-
-  pub outcome-reading : outcome s bytes ≡ outcomeOf s (reading bytes)
-  unfolding outcome refusal recordTests reading frameTests
-  outcome-reading = by-frame (cutShort bytes) (not (knownTag (tagOf bytes))) (wrongLength bytes) refl refl
 
 -- ---- the length of the record at the front
 pub extent-positive : (bytes : List ℕ) → 0 < length bytes → 1 ≤ extentOf bytes
@@ -96,7 +46,7 @@ module _ (log : List ℕ) (at e : ℕ) (h : e ≡ extentOf (take (length log - a
 -- ---- the record at the front reads the same without what follows it
 -- a reading goes by the tag, the tests of the frame and the value
 by-parts : (t b : List ℕ) → tagOf t ≡ tagOf b → cutShort t ≡ cutShort b → wrongLength t ≡ wrongLength b → valueOf t ≡ valueOf b → reading t ≡ reading b
-unfolding reading readingBy frameTests ruleOf
+unfolding reading readingBy frameTests contentOf
 by-parts t b e f g h = ap (readingBy t) (framed t _ _ _ f (ap knownTag e) g) ∙ by-test (firstThat (frameTests b))
   where
     by-test : (o : Option ℕ) → readingBy t o ≡ readingBy b o
@@ -138,8 +88,9 @@ unfolding extentOf front
 reading-first bytes = choice (λ (e : ℕ). reading (take e bytes) ≡ reading bytes) (cutShort bytes) _ _ (λ x. ap reading (take-length bytes)) (reading-front bytes)
 
 -- what the record at the front gets
-pub outcome-first : (s : State) (bytes : List ℕ) → outcome s (take (extentOf bytes) bytes) ≡ outcomeOf s (reading bytes)
-outcome-first s bytes = outcome-reading s (take (extentOf bytes) bytes) ∙ ap (outcomeOf s) (reading-first bytes)
+pub outcome-first : (s : State) (bytes : List ℕ) → outcome s (take (extentOf bytes) bytes) ≡ outcome s bytes
+unfolding outcome
+outcome-first s bytes = ap (outcomeOf s) (reading-first bytes)
 
 -- ---- a log
 -- what follows a whole record is shorter

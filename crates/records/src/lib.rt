@@ -1,9 +1,9 @@
 // The record at the front of a byte slice (document 01, The records), and how far it goes.
 ghost use mathlib.Core.Path.{_≡_};
 ghost use mathlib.Core.List.{[], _∷_};
-ghost use Rattle.flow.specs.Lists.{tableFrom, firstThat};
-ghost use Rattle.flow.specs.Records.{byteAt, statedLength, cutShort, knownTag, tagLength, numberFrom};
-ghost use Rattle.records.specs.Reading.{reading, extentOf, readingOf, refusalOf, frameTests};
+ghost use Rattle.flow.specs.Lists.{tableFrom, firstThat, refusalFrom};
+ghost use Rattle.flow.specs.Records.{byteAt, statedLength, cutShort, knownTag, tagLength, numberFrom, frameTests, reading};
+ghost use Rattle.records.specs.Reading.{extentOf, readingOf};
 
 const CALL_TAG: u8 = 0x10;
 
@@ -72,7 +72,7 @@ fn length_of(tag: u8) -> u16
 
 // The refusal of what cannot be read, 0 where there is none.
 fn refusal(bytes: &[u8]) -> u8
-    ensures { λ r. ⌜ refusalOf r ≡ firstThat (frameTests (now (bytes .entry))) ⌝ }
+    ensures { λ r. ⌜ refusalFrom r ≡ firstThat (frameTests (now (bytes .entry))) ⌝ }
 {
     if cut_short(bytes) {
         return 1;

@@ -30,6 +30,10 @@ changed m x = record { tables = x .tables; items = itemsAfter (m .tables) (m .it
 unfoldable pub part : ℕ → ℕ → List ℕ → List ℕ
 part a n l = take n (drop a l)
 
+-- the items in the words
+abbrev pub itemsIn : List ℕ → List ℕ
+itemsIn words = part 1 containerCount words
+
 -- the words: the set of live processes at 0, the items from 1 on, the feeders from 65 on, the fed from 81 on
 unfoldable pub view : List ℕ → List ℕ → List ℕ → Maps
 view words descriptors names =
@@ -42,7 +46,7 @@ view words descriptors names =
             descriptors = descriptors;
             names = names;
           };
-      items = part 1 containerCount words;
+      items = itemsIn words;
     }
 
 -- ---- sets that the code works with

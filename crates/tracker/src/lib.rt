@@ -2,10 +2,10 @@
 // lead where. It makes the changes of document 01's calls, refuses what the table of refusals refuses, and answers the two queries.
 // No rule is judged here.
 pub mod calls;
-mod plan;
+pub mod plan;
 pub mod queries;
 mod release;
-mod rows;
+pub mod rows;
 mod tables;
 
 ghost use mathlib.Core.Path.{_≡_};

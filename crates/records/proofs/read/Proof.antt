@@ -1,17 +1,17 @@
 -- `read` reads by the tag what none of the three tests refuses.
 use mathlib.Core.Path.{_≡_, sym, ap, _∙_}
 use mathlib.Core.Option.{none}
-use Rattle.flow.specs.Lists.{firstThat}
-use Rattle.flow.specs.Records.{tagOf}
-use Rattle.records.specs.Reading.{frameTests, readingOf, refusalOf}
+use Rattle.flow.specs.Lists.{firstThat, refusalFrom}
+use Rattle.flow.specs.Records.{tagOf, frameTests}
+use Rattle.records.specs.Reading.{readingOf}
 use Rattle.records.proofs.Frames.{unread, call-read, forbid-read, separate-read, confine-read}
 use borrow.Author.Needs.{needs}
 use Rattle.records.proofs.read.Statement.{statement}
 use Rattle.records.proofs.read.Tie as tie
 
 whole : (c : tie.Else1) → firstThat (frameTests (c .before .before .before .args .bytes .now)) ≡ none
-unfolding refusalOf
-whole c = sym (c .before .refusal .ensures) ∙ ap refusalOf (c .if1 .left)
+unfolding refusalFrom
+whole c = sym (c .before .refusal .ensures) ∙ ap refusalFrom (c .if1 .left)
 
 refusal-requires : tie.Need-refusal-requires
 refusal-requires c κs = search needs

@@ -3,9 +3,8 @@ use mathlib.Core.Path.{_≡_, refl, sym, ap, _∙_}
 use mathlib.Core.Bool.{true, false, not}
 use lib.Dec.{eqb}
 use borrow.Author.Tests.{not-true, not-false, eq-eqb, ne-eqb}
-use Rattle.flow.specs.Lists.{firstThat}
+use Rattle.flow.specs.Lists.{firstThat, refusalFrom}
 use Rattle.flow.specs.Records.{tagOf, cutShort, knownTag, wrongLength}
-use Rattle.records.specs.Reading.{refusalOf}
 use Rattle.records.proofs.Frames.{framed, tested}
 use borrow.Author.Needs.{needs}
 use Rattle.records.proofs.refusal.Statement.{statement}
@@ -26,7 +25,7 @@ cut-short-requires : tie.Need-cut-short-requires
 cut-short-requires c κs = search needs
 
 returns : tie.Need-returns
-unfolding firstThat refusalOf
+unfolding firstThat refusalFrom
 returns c = sym (framed _ true _ _ (sym (c .before .cut-short .ensures) ∙ c .if1 .taken) refl refl)
 
 at-requires : tie.Need-at-requires
@@ -36,7 +35,7 @@ known-requires : tie.Need-known-requires
 known-requires c κs = search needs
 
 returns-2 : tie.Need-returns-2
-unfolding firstThat refusalOf
+unfolding firstThat refusalFrom
 returns-2 c = sym (framed _ false false _ (uncut (c .before .before .before)) (tag-known (c .before) ∙ not-true _ (c .if2 .taken)) refl)
 
 stated-length-requires : tie.Need-stated-length-requires
@@ -46,11 +45,11 @@ length-of-requires : tie.Need-length-of-requires
 length-of-requires c κs = search needs
 
 returns-3 : tie.Need-returns-3
-unfolding firstThat refusalOf
+unfolding firstThat refusalFrom
 returns-3 c = sym (framed _ false true true (uncut (c .before .before .before .before .before .before)) (tag-known (c .before .before .before .before) ∙ not-false _ (c .before .before .before .if2 .left)) (length-wrong (c .before) ∙ ap not (ne-eqb _ _ (c .if3 .taken))))
 
 returns-4 : tie.Need-returns-4
-unfolding firstThat refusalOf
+unfolding firstThat refusalFrom
 returns-4 c = sym (framed _ false true false (uncut (c .before .before .before .before .before .before)) (tag-known (c .before .before .before .before) ∙ not-false _ (c .before .before .before .if2 .left)) (length-wrong (c .before) ∙ ap not (eq-eqb _ _ (c .if3 .left))))
 
 pub refusal-spec : {M : Type 1} → statement M

@@ -21,6 +21,5 @@ returns-2 c =
     let c1 = c .before in
     record { works = made-done _ _ _ _ (c .if1 .left) (c1 .work .ensures); kept = λ n e. cc }
 
-
 pub call-spec : {M : Type 1} → statement M
 call-spec = tie.close (tie.spec work-requires returns returns-2)

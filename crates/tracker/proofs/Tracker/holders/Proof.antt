@@ -14,6 +14,5 @@ returns c =
     let c2 = c .before .before in
     λ rules. c2 .holders-in .ensures _ _ rules
 
-
 pub holders-spec : {M : Type 1} → statement M
 holders-spec = tie.close (tie.spec holders-in-requires same-length returns)

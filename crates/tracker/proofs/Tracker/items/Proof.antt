@@ -9,6 +9,5 @@ items-in-requires c κs = search needs
 returns : tie.Need-returns
 returns c = λ rules. c .items-in .ensures _ _ rules
 
-
 pub items-spec : {M : Type 1} → statement M
 items-spec = tie.close (tie.spec items-in-requires returns)

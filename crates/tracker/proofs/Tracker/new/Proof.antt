@@ -10,6 +10,5 @@ returns : tie.Need-returns
 unfolding view part fresh noTables
 returns c = refl
 
-
 pub new-spec : {M : Type 1} → statement M
 new-spec = tie.close (tie.spec returns)

@@ -51,7 +51,6 @@ returns c =
     (c19 .pre .0 .none-holds) (view (c6 .change-tables .last .0) d n) (view (c4 .make-items .last .0) d n) _ _ _
     (c6 .change-tables .ensures) (c19 .pre .1) (c10 .lost-by .ensures) (c4 .make-items .ensures d n) (c .release .ensures)
 
-
 pub make-spec : {M : Type 1} → statement M
 make-spec =
     tie.close

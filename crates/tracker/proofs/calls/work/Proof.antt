@@ -32,6 +32,5 @@ returns-2 c =
     let c9 = c8 .before in
     worked-out _ _ _ (passes _ _ (c9 .refusal .ensures) (c8 .if1 .left)) (c .make .ensures)
 
-
 pub work-spec : {M : Type 1} → statement M
 work-spec = tie.close (tie.spec refusal-requires returns plan-of-requires make-requires returns-2)

@@ -47,7 +47,6 @@ returns c =
     let done : c1 .loop .c ≡ 64 = omega arith in
     λ d n rules. rw done at (c1 .loop .inv .1) ∙ found-all (state (view (a .words .now) d n) rules) (a .i % 64)
 
-
 pub holder-set-spec : {M : Type 1} → statement M
 holder-set-spec =
     tie.close

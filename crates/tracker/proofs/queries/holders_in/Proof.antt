@@ -47,7 +47,6 @@ returns-3 c =
     λ d n rules. holders-given (state (view (a .words .now) d n) rules) (a .i) (a .out .now) (omega arith) (c6 .holder-set .result) (c5 .count .result)
     (c6 .holder-set .ensures d n rules) (c5 .count .ensures) (c2 .fill .last .1 .0) (omega arith) (c2 .fill .ensures)
 
-
 pub holders-in-spec : {M : Type 1} → statement M
 holders-in-spec =
     tie.close

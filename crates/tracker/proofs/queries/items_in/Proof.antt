@@ -25,6 +25,5 @@ returns-2 c =
     let c1 = c .before in
     λ d n rules. let a = c1 .args in items-refused (state (view (a .words .now) d n) rules) (a .c) (c .if1 .left)
 
-
 pub items-in-spec : {M : Type 1} → statement M
 items-in-spec = tie.close (tie.spec items-requires returns returns-2)

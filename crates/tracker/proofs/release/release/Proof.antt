@@ -16,6 +16,5 @@ returns c =
     let c4 = c2 .before .before in
     c .empty-items .ensures (c4 .args .descriptors .now) (c4 .args .names .now) ∙ rw (c2 .gone .ensures)
 
-
 pub release-spec : {M : Type 1} → statement M
 release-spec = tie.close (tie.spec gone-requires empty-items-requires returns)

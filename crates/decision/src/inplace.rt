@@ -1,0 +1,236 @@
+// What a call, a rule, a record and a log get (document 01, What a record gets), on a monitor's arrays where they lie. A call is planned, judged
+// by the rules, then made; what is refused or inhibited has stored nothing. Each function says what it does of the monitor that the arrays make up.
+use crate::Answer;
+use crate::logs::code;
+use crate::logs::records_in;
+use logreader::end_after;
+use records::Record;
+use records::read;
+use rules::RuleFields;
+use rules::judging::judge;
+use rules::loading::breaks_now;
+use rules::loading::unfit;
+use rules::stored;
+use rules::stored::FORBID_TAG;
+use rules::stored::RULE_COUNT;
+use rules::stored::SEPARATE_TAG;
+use rules::stored::count;
+use store::cells::make_items;
+use store::lookups::in_use;
+use store::lookups::items;
+use store::numbers::Container;
+use store::spread::reach;
+use tracker::Call;
+use tracker::Tracker;
+use tracker::calls::make;
+use tracker::plan::giving;
+use tracker::plan::plan_of;
+use tracker::queries::Reply;
+use tracker::rows::refusal;
+ghost use Prim.Native.Nat.{ℕ, _<_};
+ghost use mathlib.Core.Path.{_≡_};
+ghost use mathlib.Core.List.{List};
+ghost use mathlib.Core.Option.{some};
+ghost use Rattle.flow.specs.Box.{ruleCount};
+ghost use Rattle.flow.specs.Calls.{Call as Asked};
+ghost use Rattle.flow.specs.Records.{aCall, aRule};
+ghost use Rattle.tracker.specs.Rows.{callIn, Passes};
+ghost use Rattle.rules.specs.Stored.{ruleFrom};
+ghost use Rattle.decision.specs.View.{monitor};
+ghost use Rattle.decision.specs.Logs.{AnswersLog};
+ghost use Rattle.decision.specs.Answers.{IsFresh, AnswersRecord, Answers, AnswersStopped};
+
+const CONFINE_TAG: u8 = 0x13;
+
+const WRITE: u8 = 9;
+
+const DIVERT: u8 = 1;
+
+// Makes the arrays those of a fresh tracker without rules.
+pub fn renew(
+    words: &mut [u64; 97],
+    descriptors: &mut [u8; 512],
+    names: &mut [u8; 128],
+    sets: &mut [u64; 32],
+    fields: &mut [u8; 129],
+)
+    ensures { λ _. ⌜ IsFresh (monitor (now (words .exit)) (now (descriptors .exit)) (now (names .exit)) (now (sets .exit)) (now (fields .exit))) ⌝ }
+{
+    *words = [0u64; 97];
+    *descriptors = [Tracker::CLOSED; 512];
+    *names = [Tracker::CLOSED; 128];
+    *sets = [0u64; 32];
+    *fields = [0u8; 129];
+}
+
+// A call that rule k stops: a write may go to the rule's substitute.
+fn stop_in(
+    words: &mut [u64; 97],
+    descriptors: &[u8; 512],
+    names: &[u8; 128],
+    sets: &[u64; 32],
+    fields: &[u8; 129],
+    q: Call,
+    k: u8,
+) -> Answer
+    requires { ⌜ (k < ruleCount) × Passes (now words) (now descriptors) (now names) q ⌝ }
+    ensures { λ r. ⌜ ((x : Asked) → callIn q ≡ some x → AnswersStopped (monitor (now (words .entry)) (now (descriptors .entry)) (now (names .entry)) (now (sets .entry)) (now (fields .entry))) x k (record { answer = r; monitor = monitor (now (words .exit)) (now (descriptors .entry)) (now (names .entry)) (now (sets .entry)) (now (fields .entry)) })) ⌝ }
+{
+    let diverts = stored::action(fields, k) == DIVERT;
+    if !(diverts & (q.kind == WRITE)) {
+        return Answer::Inhibit(k);
+    }
+    let c = stored::substitute(fields, k);
+    if !in_use(words, descriptors, names, Container(c)) {
+        return Answer::Inhibit(k);
+    }
+    let own = 8 + q.process;
+    let plan = giving(items(words, Container(own)), reach(words, Container(c)));
+    if judge(words, plan, sets, fields) != count(fields) {
+        return Answer::Inhibit(k);
+    }
+    make_items(words, plan);
+    Answer::Modify(k, c)
+}
+
+// What a call of any five bytes gets.
+pub fn call_in(
+    words: &mut [u64; 97],
+    descriptors: &mut [u8; 512],
+    names: &mut [u8; 128],
+    sets: &[u64; 32],
+    fields: &[u8; 129],
+    q: Call,
+) -> Answer
+    ensures { λ r. ⌜ Answers (monitor (now (words .entry)) (now (descriptors .entry)) (now (names .entry)) (now (sets .entry)) (now (fields .entry))) (aCall (callIn q)) (record { answer = r; monitor = monitor (now (words .exit)) (now (descriptors .exit)) (now (names .exit)) (now (sets .entry)) (now (fields .entry)) }) ⌝ }
+{
+    let n = refusal(words, descriptors, names, q);
+    if n != 0 {
+        return Answer::Refused(n);
+    }
+    let plan = plan_of(words, descriptors, names, q);
+    let k = judge(words, plan, sets, fields);
+    if k == count(fields) {
+        make(words, descriptors, names, q, plan);
+        return Answer::Allow;
+    }
+    stop_in(words, descriptors, names, sets, fields, q, k)
+}
+
+// What a rule gets.
+fn load_in(
+    words: &[u64; 97],
+    sets: &mut [u64; 32],
+    fields: &mut [u8; 129],
+    rule: RuleFields,
+) -> Answer
+    ensures { λ r. ⌜ ((d n : List ℕ) → Answers (monitor (now (words .entry)) d n (now (sets .entry)) (now (fields .entry))) (aRule (ruleFrom rule)) (record { answer = r; monitor = monitor (now (words .entry)) d n (now (sets .exit)) (now (fields .exit)) })) ⌝ }
+{
+    let n = unfit(rule);
+    if n != 0 {
+        return Answer::Refused(n);
+    }
+    let k = count(fields);
+    if RULE_COUNT <= k {
+        return Answer::Refused(11);
+    }
+    if breaks_now(words, rule) {
+        return Answer::Refused(12);
+    }
+    stored::store(sets, fields, rule);
+    Answer::Loaded(k)
+}
+
+// What the record at the front of the bytes gets.
+pub fn answer_in(
+    words: &mut [u64; 97],
+    descriptors: &mut [u8; 512],
+    names: &mut [u8; 128],
+    sets: &mut [u64; 32],
+    fields: &mut [u8; 129],
+    bytes: &[u8],
+) -> Answer
+    ensures { λ r. ⌜ AnswersRecord (monitor (now (words .entry)) (now (descriptors .entry)) (now (names .entry)) (now (sets .entry)) (now (fields .entry))) (now (bytes .entry)) (record { answer = r; monitor = monitor (now (words .exit)) (now (descriptors .exit)) (now (names .exit)) (now (sets .exit)) (now (fields .exit)) }) ⌝ }
+{
+    let record = read(bytes);
+    match record {
+        Record::Unreadable(n) => Answer::Refused(n),
+        Record::Call(kind, process, a, b, c) => call_in(
+            words,
+            descriptors,
+            names,
+            sets,
+            fields,
+            Call {
+                kind,
+                process,
+                a,
+                b,
+                c,
+            },
+        ),
+        Record::Forbid(item, set, action, substitute) => load_in(
+            words,
+            sets,
+            fields,
+            RuleFields {
+                tag: FORBID_TAG,
+                item,
+                set,
+                action,
+                substitute,
+            },
+        ),
+        Record::Separate(item, other, action, substitute) => load_in(
+            words,
+            sets,
+            fields,
+            RuleFields {
+                tag: SEPARATE_TAG,
+                item,
+                set: other as u64,
+                action,
+                substitute,
+            },
+        ),
+        Record::Confine(item, set, action, substitute) => load_in(
+            words,
+            sets,
+            fields,
+            RuleFields {
+                tag: CONFINE_TAG,
+                item,
+                set,
+                action,
+                substitute,
+            },
+        ),
+    }
+}
+
+// Answers the records of a log in order. Each answer goes to the front of `codes` as a number.
+pub fn run_in(
+    words: &mut [u64; 97],
+    descriptors: &mut [u8; 512],
+    names: &mut [u8; 128],
+    sets: &mut [u64; 32],
+    fields: &mut [u8; 129],
+    log: &[u8],
+    codes: &mut [u32],
+) -> Reply
+    ensures { λ r. ⌜ AnswersLog (monitor (now (words .entry)) (now (descriptors .entry)) (now (names .entry)) (now (sets .entry)) (now (fields .entry))) (now (log .entry)) (now (codes .entry)) (record { reply = r; monitor = monitor (now (words .exit)) (now (descriptors .exit)) (now (names .exit)) (now (sets .exit)) (now (fields .exit)) }) (now (codes .exit)) ⌝ }
+{
+    if codes.len() < records_in(log) {
+        return Reply::Refused(13);
+    }
+    let mut at = 0usize;
+    let mut n = 0usize;
+    while at < log.len() {
+        let end = end_after(log, at);
+        let answer = answer_in(words, descriptors, names, sets, fields, &log[at..end]);
+        codes[n] = code(answer);
+        at = end;
+        n += 1;
+    }
+    Reply::Result(n as u64)
+}

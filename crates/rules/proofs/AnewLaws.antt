@@ -1,0 +1,86 @@
+-- Whether a plan breaks a condition anew, by the sets that get its items.
+use Prim.Native.Nat.{ℕ, _+_}
+use native.Mathlib.Omega.{arith}
+use mathlib.Core.Path.{_≡_, refl, sym, ap, ap₂, _∙_}
+use mathlib.Core.Bool.{Bool, true, false, not, _&&_, _||_}
+use mathlib.Core.List.{List}
+use lib.Bits.{or-zero-r, and-zero-l}
+use lib.Dec.{eqb}
+use borrow.Author.Tests.{eq-eqb, ne-eqb}
+use Rattle.sets.specs.Sets.{has, _∪_, _∩_}
+use Rattle.sets.proofs.Members.{union-has, none-has}
+use Rattle.flow.specs.Box.{Condition, forbid, separate, confine}
+use Rattle.flow.specs.Links.{meets}
+use Rattle.flow.specs.Records.{conditionOf}
+use Rattle.flow.proofs.Bools.{or-false-l, or-false-r, or-false-i, chosen-r}
+use Rattle.flow.proofs.TableLaws.{none-below}
+use Rattle.store.specs.declared.Plan.{Plan}
+use Rattle.rules.specs.Stored.{ruleAt, countOf}
+use Rattle.rules.specs.Judging.{share, gets, keeps, someKeeps, breaksAnew, touches, firstAnew}
+use Rattle.rules.proofs.Searching.{first-none}
+use Rattle.rules.proofs.ConditionLaws.{forbids-by, confines-by}
+
+-- ---- x gets the item
+module _ (items : List ℕ) (plan : Plan) (tag item set x : ℕ) (e : x ≡ gets plan item) where
+  pub forbid-anew : tag ≡ 0x11 → meets x set ≡ breaksAnew items plan (conditionOf tag item set)
+  unfolding breaksAnew
+  forbid-anew h = ap (λ (y : ℕ). meets y set) e ∙ sym (ap (breaksAnew items plan) (forbids-by tag item set h))
+
+  pub confine-anew : (tag ≡ 0x12 → ⊥) → (tag ≡ 0x11 → ⊥) → not (eqb (x ∩ set) x) ≡ breaksAnew items plan (conditionOf tag item set)
+  unfolding breaksAnew
+  confine-anew h k = ap (λ (y : ℕ). not (eqb (y ∩ set) y)) e ∙ sym (ap (breaksAnew items plan) (confines-by tag item set h k))
+
+-- ---- x gets item i, y gets item j
+module _ (items : List ℕ) (plan : Plan) (i j x y : ℕ) (e : x ≡ gets plan i) (f : y ≡ gets plan j) where
+  pub separate-both : (x ∩ y ≡ 0 → ⊥) → true ≡ breaksAnew items plan (separate i j)
+  unfolding breaksAnew meets
+  separate-both h = sym (rw (sym e, sym f, ne-eqb (x ∩ y) 0 h) refl)
+
+  pub separate-one : x ∩ y ≡ 0 → (a b : Bool) → a ≡ someKeeps items plan x j → b ≡ someKeeps items plan y i → (a || b) ≡ breaksAnew items plan (separate i j)
+  unfolding breaksAnew meets
+  separate-one h a b p q = sym (rw (sym e, sym f, eq-eqb (x ∩ y) 0 h, sym p, sym q) refl)
+
+-- ---- what is not given breaks nothing
+no-share : (x i to : ℕ) → has x i ≡ false → share x i to ≡ 0
+unfolding share
+no-share x i to e = chosen-r (has x i) to 0 e
+
+none-meet : (x : ℕ) → 0 ∩ x ≡ 0
+unfolding _∩_
+none-meet x = and-zero-l x
+
+module _ (plan : Plan) where
+  abbrev gained : ℕ
+  gained = plan .given ∪ plan .given2
+
+  no-gets : (i : ℕ) → has gained i ≡ false → gets plan i ≡ 0
+  unfolding gets _∪_
+  no-gets i e =
+      let h : (has (plan .given) i || has (plan .given2) i) ≡ false = sym (union-has (plan .given) (plan .given2) i) ∙ e in
+      rw (no-share (plan .given) i (plan .to) (or-false-l (has (plan .given) i) (has (plan .given2) i) h), no-share (plan .given2) i (plan .to2) (or-false-r (has (plan .given) i) (has (plan .given2) i) h))
+      (or-zero-r 0)
+
+  none-keeps : (items : List ℕ) (i : ℕ) → someKeeps items plan 0 i ≡ false
+  unfolding someKeeps
+  none-keeps items i = none-below 64 _ (λ v l. ap (λ (b : Bool). b && keeps items plan v i) (none-has v))
+
+  pub untouched : (items : List ℕ) (c : Condition) → touches gained c ≡ false → breaksAnew items plan c ≡ false
+  unfolding breaksAnew touches meets
+  untouched items (forbid i x) e = rw (no-gets i e, none-meet x) refl
+  untouched items (separate i j) e =
+      rw (no-gets i (or-false-l (has gained i) (has gained j) e), no-gets j (or-false-r (has gained i) (has gained j) e), none-meet 0)
+      (ap₂ _||_ (none-keeps items j) (none-keeps items i))
+  untouched items (confine i x) e = rw (no-gets i e, none-meet x) refl
+
+  none-touched : gained ≡ 0 → (c : Condition) → touches gained c ≡ false
+  unfolding touches
+  none-touched e (forbid i x) = rw e (none-has i)
+  none-touched e (separate i j) = rw e (or-false-i (has 0 i) (has 0 j) (none-has i) (none-has j))
+  none-touched e (confine i x) = rw e (none-has i)
+
+  pub nothing-given : gained ≡ 0 → (items sets fields : List ℕ) (n : ℕ) → n ≡ countOf fields → n ≡ firstAnew items plan sets fields
+  unfolding firstAnew
+  nothing-given e items sets fields n f =
+      f
+      ∙ sym (first-none (countOf fields) 0 _ (λ k. let c = ruleAt sets fields k .condition in untouched items c (none-touched e c))
+      ∙ (let z : 0 + countOf fields ≡ countOf fields = omega arith in z))

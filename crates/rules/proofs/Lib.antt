@@ -1,0 +1,9 @@
+pub mod SetLaws
+pub mod Searching
+pub mod Worklist
+pub mod ConditionLaws
+pub mod AnewLaws
+pub mod StoredLaws
+pub mod LoadingLaws
+pub mod JudgingLaws
+pub mod PlanLaws

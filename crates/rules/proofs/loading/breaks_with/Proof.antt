@@ -1,0 +1,41 @@
+-- `breaks_with` goes by the tag.
+use Rattle.rules.specs.Judging.{breaksWith}
+use Rattle.rules.proofs.ConditionLaws.{forbids-by, separates-by, confines-by}
+use borrow.Author.Needs.{needs}
+use Rattle.rules.proofs.loading.breaks_with.Statement.{statement}
+use Rattle.rules.proofs.loading.breaks_with.Tie as tie
+
+cast-has : tie.Need-cast-has
+cast-has c = search needs
+
+has-requires : tie.Need-has-requires
+has-requires c κs = search needs
+
+has-requires-2 : tie.Need-has-requires-2
+has-requires-2 c κs = search needs
+
+returns : tie.Need-returns
+unfolding breaksWith
+returns c =
+    let b = c .before .before .before in
+    rw (separates-by _ _ _ (c .before .if1 .taken), b .has .ensures, c .has2 .ensures)
+
+has-requires-3 : tie.Need-has-requires-3
+has-requires-3 c κs = search needs
+
+returns-2 : tie.Need-returns-2
+unfolding breaksWith
+returns-2 c =
+    let b = c .before .before .before in
+    rw (forbids-by _ _ _ (c .if2 .taken), b .before .before .has .ensures, c .before .before .has3 .ensures)
+
+returns-3 : tie.Need-returns-3
+unfolding breaksWith
+returns-3 c =
+    let b = c .before .before .before in
+    rw (confines-by _ _ _ (b .if1 .left) (c .if2 .left), b .before .before .has .ensures, c .before .before .has3 .ensures)
+
+pub breaks-with-spec : {M : Type 1} → statement M
+breaks-with-spec =
+    tie.close
+    (tie.spec cast-has has-requires has-requires-2 returns has-requires-3 returns-2 returns-3)

@@ -1,0 +1,20 @@
+-- `items_fit` goes by the tag.
+use mathlib.Core.Path.{sym, ap}
+use borrow.Author.Needs.{needs}
+use Rattle.flow.specs.Refusals.{itemsFit}
+use Rattle.rules.proofs.ConditionLaws.{separates-by, items-fit-by-set}
+use Rattle.rules.proofs.loading.items_fit.Statement.{statement}
+use Rattle.rules.proofs.loading.items_fit.Tie as tie
+
+cast-result : tie.Need-cast-result
+cast-result c = search needs
+
+returns : tie.Need-returns
+unfolding itemsFit
+returns c = sym (ap itemsFit (separates-by _ _ _ (c .before .before .if1 .taken)))
+
+returns-2 : tie.Need-returns-2
+returns-2 c = items-fit-by-set _ _ _ (c .before .if1 .left)
+
+pub items-fit-spec : {M : Type 1} → statement M
+items-fit-spec = tie.close (tie.spec cast-result returns returns-2)

@@ -1,0 +1,51 @@
+-- `unfit` tries 4, 5 and 9 in order.
+use mathlib.Core.Path.{sym}
+use borrow.Author.Tests.{le-ltb, lt-ltb}
+use Rattle.flow.specs.Lists.{refusalFrom, firstThat}
+use Rattle.flow.specs.Refusals.{fieldTests}
+use borrow.Author.Needs.{needs}
+use Rattle.rules.proofs.loading.unfit.Statement.{statement}
+use Rattle.rules.proofs.loading.unfit.Tie as tie
+
+returns : tie.Need-returns
+unfolding refusalFrom firstThat fieldTests
+returns c = rw (le-ltb _ 2 (c .if1 .taken))
+
+items-fit-requires : tie.Need-items-fit-requires
+items-fit-requires c κs = search needs
+
+substitute-fits-requires : tie.Need-substitute-fits-requires
+substitute-fits-requires c κs = search needs
+
+returns-2 : tie.Need-returns-2
+unfolding refusalFrom firstThat fieldTests
+returns-2 c =
+    let b = c .before .before .before in
+    rw (lt-ltb _ 2 (b .if1 .left), sym (c .before .before .items-fit .ensures), sym (c .before .substitute-fits .ensures), c .if2 .taken)
+
+same-items-requires : tie.Need-same-items-requires
+same-items-requires c κs = search needs
+
+returns-3 : tie.Need-returns-3
+unfolding refusalFrom firstThat fieldTests
+returns-3 c =
+    let b = c .before .before .before in
+    rw (lt-ltb _ 2 (b .before .before .if1 .left), sym (b .before .items-fit .ensures), sym (b .substitute-fits .ensures), c .before .before .if2 .left, sym (c .before .same-items .ensures), c .if3 .taken)
+
+returns-4 : tie.Need-returns-4
+unfolding refusalFrom firstThat fieldTests
+returns-4 c =
+    let b = c .before .before .before in
+    rw (lt-ltb _ 2 (b .before .before .if1 .left), sym (b .before .items-fit .ensures), sym (b .substitute-fits .ensures), c .before .before .if2 .left, sym (c .before .same-items .ensures), c .if3 .left)
+
+pub unfit-spec : {M : Type 1} → statement M
+unfit-spec =
+    tie.close
+    (tie.spec
+    returns
+    items-fit-requires
+    substitute-fits-requires
+    returns-2
+    same-items-requires
+    returns-3
+    returns-4)

@@ -1,0 +1,18 @@
+-- `count` is the number of rules, 32 at most.
+use mathlib.Core.Path.{sym}
+use Rattle.rules.proofs.StoredLaws.{count-all, count-full}
+use borrow.Author.Needs.{needs}
+use Rattle.rules.proofs.stored.count.Statement.{statement}
+use Rattle.rules.proofs.stored.count.Tie as tie
+
+element-copy-out-n : tie.Need-element-copy-out-n
+element-copy-out-n c = search needs
+
+returns : tie.Need-returns
+returns c = sym (count-all _ (c .if1 .taken))
+
+returns-2 : tie.Need-returns-2
+returns-2 c = sym (count-full _ (c .if1 .left))
+
+pub count-spec : {M : Type 1} → statement M
+count-spec = tie.close (tie.spec element-copy-out-n returns returns-2)
