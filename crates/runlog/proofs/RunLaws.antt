@@ -13,17 +13,20 @@ use Rattle.flow.specs.Box.{logLimit, State, fresh}
 use Rattle.flow.specs.Records.{statedLength, recordLength, cutShort, recordsOf}
 use Rattle.flow.specs.Verdicts.{runLog}
 use Rattle.flow.specs.Queries.{Reply as Answer, refuse, result}
+use Rattle.flow.specs.Rules.{lowestBroken}
 use Rattle.flow.proofs.Bools.{choice}
+use Rattle.flow.proofs.Keeping.{fresh-kept}
 use Rattle.records.specs.Reading.{extentOf}
 use Rattle.records.proofs.RecordLaws.{extent-positive, extent-le, records-first}
 use Rattle.tracker.specs.declared.queries.Reply.{Reply}
 use Rattle.tracker.specs.declared.queries.Reply.the-variants.{Result, Refused}
 use Rattle.tracker.specs.Replies.{replyOf}
 use Rattle.decision.specs.declared.Monitor.{Monitor}
-use Rattle.decision.specs.declared.Ran.{Ran}
+use Rattle.decision.specs.declared.RunResult.{RunResult}
 use Rattle.decision.specs.View.{view}
-use Rattle.decision.specs.Logs.{codesOf, roomFor, RunsBy, Runs}
-use Rattle.decision.proofs.LogLaws.{no-records, log-answers, codes-length}
+use Rattle.decision.specs.Answers.{Sound}
+use Rattle.decision.specs.Logs.{codesOf, roomFor, AnswersLogBy, AnswersLog}
+use Rattle.decision.proofs.LogLaws.{no-records}
 use Rattle.runlog.specs.Limits.{recordLimit}
 
 whole-or-rest : (bytes : List ℕ) → (length bytes ≤ extentOf bytes) ⊎ (3 ≤ extentOf bytes)
@@ -57,20 +60,19 @@ few zero = few-none
 few (suc f) = λ bytes l. few-step bytes f l (few f)
 
 -- there is room for the answers
-has-room : (s : State) (log codes : List ℕ) → length log ≤ logLimit → recordLimit ≤ length codes → leb (length (runLog s log .answers)) (length codes) ≡ true
-has-room s log codes h g =
-    le-leb (length (runLog s log .answers)) (length codes)
-    (let z : 3 * length (recordsOf log) ≤ length log + 2 = few (length log) log (omega arith) in let y : length (runLog s log .answers) ≡ length (recordsOf log) = log-answers s log in omega arith)
+has-room : (log codes : List ℕ) → length log ≤ logLimit → recordLimit ≤ length codes → leb (length (recordsOf log)) (length codes) ≡ true
+has-room log codes h g =
+    le-leb (length (recordsOf log)) (length codes) (let z : 3 * length (recordsOf log) ≤ length log + 2 = few (length log) log (omega arith) in omega arith)
 
 -- the codes of the answers stand at the front
-pub front-codes : (m : Monitor) (log before : List ℕ) (r : Ran) (codes : List ℕ) (n : ℕ) → view m ≡ fresh → Runs m log before r codes → ((k : ℕ) → replyOf (r .reply) ≡ result k → n ≡ k)
+pub front-codes : (m : Monitor) (log before : List ℕ) (r : RunResult) (codes : List ℕ) (n : ℕ) → view m ≡ fresh → AnswersLog m log before r codes → ((k : ℕ) → replyOf (r .reply) ≡ result k → n ≡ k)
     → length log ≤ logLimit → recordLimit ≤ length before → take n codes ≡ codesOf (runLog fresh log .answers)
-unfolding Runs RunsBy roomFor
+unfolding AnswersLog AnswersLogBy roomFor Sound
 front-codes m log before r codes n e w f h g =
-    let s : Runs m log before r codes = w in
-    let x : RunsBy true m log before r codes = subst (λ (b : Bool). RunsBy b m log before r codes) (has-room (view m) log before h g) w in
-    let l : n ≡ length (runLog (view m) log .answers) = f (length (runLog (view m) log .answers)) (x .0) in
-    ap (take n) (x .2) ∙ take-at (codesOf (runLog (view m) log .answers)) _ n (codes-length (runLog (view m) log .answers) ∙ sym l) ∙ ap (λ (u : State). codesOf (runLog u log .answers)) e
+    let x : AnswersLogBy true m log before r codes = subst (λ (b : Bool). AnswersLogBy b m log before r codes) (has-room log before h g) w in
+    let l : n ≡ length (recordsOf log) = f (length (recordsOf log)) (x .0) in
+    let z : Sound m = ap lowestBroken e ∙ fresh-kept .unbroken in
+    ap (λ (k : ℕ). take k codes) l ∙ x .3 z .0 ∙ ap (λ (u : State). codesOf (runLog u log .answers)) e
 
 -- ---- a reply's number
 valueOf : Answer → ℕ

@@ -2,13 +2,13 @@
 // left over is ignored. It writes a line for each call, 0 or the refusal's number; then each container's items as a number; then for each
 // item how many containers hold it, and which.
 ghost use mathlib.Core.Path.{_≡_};
-ghost use mathlib.Core.List.{[]};
 ghost use Prim.Native.Nat.{_/_};
 ghost use lib.ListN.{length};
 ghost use Rattle.tracker.specs.View.{view};
 ghost use Rattle.test_calls.specs.Calls.{afterCalls};
 use libc::STDIN_FILENO;
 use libc::STDOUT_FILENO;
+use tracker::Call;
 use tracker::Tracker;
 use tracker::Work;
 use tracker::queries::Reply;
@@ -67,18 +67,18 @@ fn answer(reply: Reply) -> u64 {
 
 // Runs the calls, with a line for each, and answers the tracker after them.
 fn run(calls: &[u8]) -> Tracker
-    ensures { λ r. ⌜ view r [] ≡ afterCalls (length (now (calls .entry)) / 5) (now (calls .entry)) ⌝ }
+    ensures { λ r. ⌜ view r ≡ afterCalls (length (now (calls .entry)) / 5) (now (calls .entry)) ⌝ }
 {
     let mut t = Tracker::new();
     for i in 0..calls.len() / 5 {
         let at = 5 * i;
-        let r = t.call(
-            calls[at],
-            calls[at + 1],
-            calls[at + 2],
-            calls[at + 3],
-            calls[at + 4],
-        );
+        let r = t.call(Call {
+            kind: calls[at],
+            process: calls[at + 1],
+            a: calls[at + 2],
+            b: calls[at + 3],
+            c: calls[at + 4],
+        });
         let work = r.work;
         let after = r.tracker;
         t = after;

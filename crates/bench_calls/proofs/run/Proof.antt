@@ -7,10 +7,10 @@ use Rattle.bench_calls.proofs.run.Statement.{statement}
 use Rattle.bench_calls.proofs.run.Tie as tie
 
 abbrev Inv-loop : tie.InvT-loop
-Inv-loop calls live₀ items₀ feeders₀ fed₀ descriptors₀ names₀ i₀ i-end live items feeders fed descriptors names i = (i ≤ i-end) × (i-end ≡ length calls / 5)
+Inv-loop calls words₀ descriptors₀ names₀ i₀ i-end words descriptors names i = (i ≤ i-end) × (i-end ≡ length calls / 5)
 
 abbrev μ-loop : tie.MeasureT-loop
-μ-loop calls live₀ items₀ feeders₀ fed₀ descriptors₀ names₀ i₀ i-end live items feeders fed descriptors names i = i-end - i
+μ-loop calls words₀ descriptors₀ names₀ i₀ i-end words descriptors names i = i-end - i
 
 loop-holds : tie.Need-loop-holds Inv-loop μ-loop
 loop-holds c = search needs
@@ -18,35 +18,35 @@ loop-holds c = search needs
 mul-at : tie.Need-mul-at Inv-loop μ-loop
 mul-at c = search needs
 
-shared-slice-read-call-in : tie.Need-shared-slice-read-call-in Inv-loop μ-loop
-shared-slice-read-call-in c = search needs
+shared-slice-read-t13 : tie.Need-shared-slice-read-t13 Inv-loop μ-loop
+shared-slice-read-t13 c = search needs
 
-add-call-in : tie.Need-add-call-in Inv-loop μ-loop
-add-call-in c = search needs
+add-t14 : tie.Need-add-t14 Inv-loop μ-loop
+add-t14 c = search needs
 
-shared-slice-read-call-in-2 : tie.Need-shared-slice-read-call-in-2 Inv-loop μ-loop
-shared-slice-read-call-in-2 c = search needs
+shared-slice-read-t16 : tie.Need-shared-slice-read-t16 Inv-loop μ-loop
+shared-slice-read-t16 c = search needs
 
-add-call-in-2 : tie.Need-add-call-in-2 Inv-loop μ-loop
-add-call-in-2 c = search needs
+add-t17 : tie.Need-add-t17 Inv-loop μ-loop
+add-t17 c = search needs
 
-shared-slice-read-call-in-3 : tie.Need-shared-slice-read-call-in-3 Inv-loop μ-loop
-shared-slice-read-call-in-3 c = search needs
+shared-slice-read-t19 : tie.Need-shared-slice-read-t19 Inv-loop μ-loop
+shared-slice-read-t19 c = search needs
 
-add-call-in-3 : tie.Need-add-call-in-3 Inv-loop μ-loop
-add-call-in-3 c = search needs
+add-t20 : tie.Need-add-t20 Inv-loop μ-loop
+add-t20 c = search needs
 
-shared-slice-read-call-in-4 : tie.Need-shared-slice-read-call-in-4 Inv-loop μ-loop
-shared-slice-read-call-in-4 c = search needs
+shared-slice-read-t22 : tie.Need-shared-slice-read-t22 Inv-loop μ-loop
+shared-slice-read-t22 c = search needs
 
-add-call-in-4 : tie.Need-add-call-in-4 Inv-loop μ-loop
-add-call-in-4 c = search needs
+add-t23 : tie.Need-add-t23 Inv-loop μ-loop
+add-t23 c = search needs
 
-shared-slice-read-call-in-5 : tie.Need-shared-slice-read-call-in-5 Inv-loop μ-loop
-shared-slice-read-call-in-5 c = search needs
+shared-slice-read-t25 : tie.Need-shared-slice-read-t25 Inv-loop μ-loop
+shared-slice-read-t25 c = search needs
 
-call-in-requires : tie.Need-call-in-requires Inv-loop μ-loop
-call-in-requires c κs = search needs
+work-requires : tie.Need-work-requires Inv-loop μ-loop
+work-requires c κs = search needs
 
 say-requires : tie.Need-say-requires Inv-loop μ-loop
 say-requires c κs = search needs
@@ -71,16 +71,16 @@ run-spec =
     μ-loop
     loop-holds
     mul-at
-    shared-slice-read-call-in
-    add-call-in
-    shared-slice-read-call-in-2
-    add-call-in-2
-    shared-slice-read-call-in-3
-    add-call-in-3
-    shared-slice-read-call-in-4
-    add-call-in-4
-    shared-slice-read-call-in-5
-    call-in-requires
+    shared-slice-read-t13
+    add-t14
+    shared-slice-read-t16
+    add-t17
+    shared-slice-read-t19
+    add-t20
+    shared-slice-read-t22
+    add-t23
+    shared-slice-read-t25
+    work-requires
     say-requires
     add-i
     loop-less

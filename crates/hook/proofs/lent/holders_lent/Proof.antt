@@ -24,6 +24,5 @@ returns c =
     let h = c4 .holders-in .ensures (a .descriptors .now) (a .names .now) (rulesOf (a .sets .now) (a .fields .now)) in
     record { given = given-by _ _ (h .answer) _ _ _ (c .give .ensures); slice = h .slice }
 
-
 pub holders-lent-spec : {M : Type 1} → statement M
 holders-lent-spec = tie.close (tie.spec holders-in-requires give-requires same-length returns)

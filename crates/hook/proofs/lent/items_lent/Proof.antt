@@ -20,6 +20,5 @@ returns c =
     let a = c3 .args in
     given-by _ _ (c2 .items-in .ensures (a .descriptors .now) (a .names .now) (rulesOf (a .sets .now) (a .fields .now))) _ _ _ (c .give .ensures)
 
-
 pub items-lent-spec : {M : Type 1} → statement M
 items-lent-spec = tie.close (tie.spec items-in-requires give-requires returns)
