@@ -1,4 +1,4 @@
-"""What a call costs through the library: by the hook, which copies the monitor, and where it lies."""
+"""What a call costs through the library: by the hook, which copies the monitor, and in place."""
 
 import subprocess
 from pathlib import Path
@@ -6,6 +6,7 @@ from typing import Dict, List, NamedTuple, Tuple
 
 from bench.counting import BadRun, Report, instructions, peak_of, prose, row, rule_of, say
 from bench.logcases import CASES, CONFINING
+from bench.machine import monitor_size
 from bench.states import KIND_NAMES, Case
 from model import ROOT
 from model.limits import Kind
@@ -71,8 +72,8 @@ def costs() -> Dict[Tuple[int, str], Cost]:
 
 
 def stacks() -> Dict[bytes, int]:
-    """The peak of the stack over the kinds, in the worst state with 32 rules, above a run without the call."""
-    peaks = {HOOK: 0, IN_PLACE: 0}
+    """The peak of the stack over the kinds, in the worst state with 32 rules, program included."""
+    peaks = {HOOK: 0, IN_PLACE: 0, NONE: 0}
     for kind in KIND_NAMES:
         log = log_of(CONFINING, CASES["worst"][kind][0])
         for how in peaks:
@@ -107,10 +108,11 @@ def report() -> Report:
     by = f"{more[0]:,}" if len(more) == 1 else f"{more[0]:,} to {more[-1]:,}"
     text = (
         f"By the hook a call takes {by} instructions more than in place. One copy of the monitor's "
-        f"1,808 bytes takes {copy:,}: the hook makes one out and one back, {2 * copy:,}, and the rest, "
-        f"{more[0] - 2 * copy:,}, is what the step by value takes more than the same in place, since it takes the "
-        f"monitor apart and puts it together again. Peak of the stack over all kinds, worst state, 32 rules, with that of "
-        f"the program itself: {peaks[HOOK]:,} bytes by the hook, {peaks[IN_PLACE]:,} in place. Code of the archive: "
-        f"{archive_bytes():,} bytes."
+        f"{monitor_size():,} bytes takes {copy:,}: the hook makes one out and one back, "
+        f"{2 * copy:,}, and the rest, {more[0] - 2 * copy:,}, is what the step by value takes more "
+        f"than the same in place, since it takes the monitor apart and puts it together again. "
+        f"Peak of the stack over all kinds, worst state, 32 rules, with that of the program "
+        f"itself: {peaks[HOOK]:,} bytes by the hook, {peaks[IN_PLACE]:,} in place, {peaks[NONE]:,} "
+        f"with no call. Code of the archive: {archive_bytes():,} bytes."
     )
     return Report({"hook and library": [*table(found), "", *prose(text)]}, [])

@@ -20,7 +20,7 @@ from tests.logtests.randomlogs import largest_calls, largest_log
 
 REPEATS = 401
 MODEL_REPEATS = 5
-CRATES = ("tracker", "decision")  # where the fields of a Monitor are defined
+MONITOR = ROOT / "crates" / "decision" / "src" / "lib.rt"  # where a Monitor is defined
 NUMBER_SIZES = {"bool": 1, "u8": 1, "u16": 2, "u32": 4, "u64": 8, "usize": 8}
 RUNLOG = ROOT / "crates" / "runlog" / "src" / "main.rt"
 EXECUTED = 4  # the flag of a section that is executed, SHF_EXECINSTR
@@ -138,29 +138,27 @@ def answers_array() -> int:
 # Sizes.
 
 
-def struct_fields(name: str) -> List[str]:
-    """The types of the fields of a struct, as the sources of the crates have them."""
-    for crate in CRATES:
-        for file in sorted((ROOT / "crates" / crate / "src").glob("*.rt")):
-            found = re.search(rf"struct {name} \{{(.*?)\}}", file.read_text(), re.DOTALL)
-            if found:
-                return re.findall(r"(?m)^\s*(?:pub )?\w+: (.+?),?$", found[1])
-    raise BadRun(f"no struct {name} in {' and '.join(CRATES)}")
+def monitor_fields() -> List[str]:
+    """The types of the fields of a Monitor, as the source has them."""
+    found = re.search(r"struct Monitor \{(.*?)\}", MONITOR.read_text(), re.DOTALL)
+    if not found:
+        raise BadRun(f"no struct Monitor in {MONITOR.relative_to(ROOT)}")
+    return re.findall(r"(?m)^\s*(?:pub )?\w+: (.+?),?$", found[1])
 
 
 def type_size(text: str) -> int:
-    """The bytes of a type, without what lies between fields."""
+    """The bytes of a number or of an array."""
     array = re.fullmatch(r"\[(.+); (\d+)\]", text)
     if array:
         return int(array[2]) * type_size(array[1])
-    if text in NUMBER_SIZES:
-        return NUMBER_SIZES[text]
-    return sum(map(type_size, struct_fields(text.rpartition("::")[2])))
+    if text not in NUMBER_SIZES:
+        raise BadRun(f"a field of Monitor has the type {text}, which is no number and no array")
+    return NUMBER_SIZES[text]
 
 
 def monitor_size() -> int:
     """The bytes of a Monitor: its fields, as a multiple of 8."""
-    return -(-type_size("Monitor") // 8) * 8
+    return -(-sum(map(type_size, monitor_fields())) // 8) * 8
 
 
 def baseline_size() -> int:

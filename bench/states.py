@@ -86,9 +86,10 @@ def small_laden_cases() -> Dict[int, Case]:
     return {case.call.kind: case for case in cases}
 
 
-# The worst state. FIRST is a file that feeds process 15 alone, and so is HIDDEN, which has no name and no descriptor.
-# Process k gives to process k - 1 through a file of its own, from 15 down to 0: each search for the next process tries
-# every lower one first. Process 0, the last, gives to the devices and to most other files.
+# The worst state. FIRST is a file that feeds process 15 alone, and so is HIDDEN, which has no name
+# and no descriptor. Process k gives to process k - 1 through a file of its own, from 15 down to 0:
+# each search for the next process tries every lower one first. Process 0, the last, gives to the
+# devices and to most other files.
 GIVER = PROCESSES[-1]
 FIRST = FILES[0]
 HIDDEN = FILES[1]
@@ -209,9 +210,10 @@ def worst_cases() -> Dict[int, Case]:
 
 
 def worst_laden_cases() -> Dict[int, Case]:
-    """The same state for calls that move items, with item 0 where the call brings it to most containers.
+    """The same state for calls that move items.
 
-    Process 0 stands apart from the chain where it writes. The file FREE stands apart where it is read.
+    Item 0 is where the call brings it to most containers. Process 0 stands apart from the chain
+    where it writes. The file FREE stands apart where it is read.
     """
     full = worst_state(PROCESSES, spread=True)
     one_dead = worst_state(PROCESSES[1:], spread=True)
