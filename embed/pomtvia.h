@@ -4,9 +4,12 @@
  * crates/hook/src/. What each promises is said here in words. Nothing is allocated and nothing is kept between calls: all state lies in
  * a `struct pomtvia_monitor` that the caller owns.
  *
+ * Answers and states are those of document 01 for every monitor in which no loaded rule is broken; pomtvia_new makes such a one, and every
+ * function leaves it so. Any other bytes are safe too: every function ends and stays within its memory, refusals are right, and a refused
+ * or inhibited call leaves every byte of every field as it was.
+ *
  * What the caller sees to, since nothing checks it:
- *   - a monitor is made by pomtvia_new before any other function gets it. (Any other contents are safe too: every function ends and
- *     stays within its memory; but then they stand for a state that no log has made.)
+ *   - a monitor is made by pomtvia_new before any other function gets it.
  *   - a pointer that is passed points to as many elements as the function is told, which nothing else reads or writes during the call,
  *     and the monitor, the log and what is written to do not overlap. An empty log may be NULL.
  *   - two calls on one monitor do not run at the same time.
@@ -106,79 +109,56 @@ enum pomtvia_refusal {
     POMTVIA_SLICE_SHORT = 13
 };
 
-/* ---- the state: which items lie where, links, descriptors, names, rules. Its fields are the library's own. */
+/* ---- the state: which items lie where, links, descriptors, names, rules. Its fields are the library's own. The 7
+ * bytes behind the last field stand for nothing and may change. */
 
 struct pomtvia_monitor {
-    uint64_t live;
-    uint64_t items[64];
-    uint64_t feeders[16];
-    uint64_t fed[16];
+    uint64_t words[97];
     uint8_t descriptors[512];
     uint8_t names[128];
-    uint8_t tags[32];
-    uint8_t ruled[32];
     uint64_t sets[32];
-    uint8_t actions[32];
-    uint8_t substitutes[32];
-    uint8_t loaded;
+    uint8_t fields[129];
 };
 
 #define POMTVIA_MONITOR_BYTES 1808
 POMTVIA_STATIC_ASSERT(sizeof(struct pomtvia_monitor) == POMTVIA_MONITOR_BYTES, "the library's Monitor has 1,808 bytes");
-POMTVIA_STATIC_ASSERT(offsetof(struct pomtvia_monitor, tags) == 1416, "the library's Tracker has 1,416 bytes");
-POMTVIA_STATIC_ASSERT(offsetof(struct pomtvia_monitor, loaded) == 1800, "the count of rules stands last");
+POMTVIA_STATIC_ASSERT(offsetof(struct pomtvia_monitor, words) == 0, "the words stand first");
+POMTVIA_STATIC_ASSERT(offsetof(struct pomtvia_monitor, descriptors) == 776, "descriptors are behind 97 words");
+POMTVIA_STATIC_ASSERT(offsetof(struct pomtvia_monitor, names) == 1288, "names are behind 512 descriptors");
+POMTVIA_STATIC_ASSERT(offsetof(struct pomtvia_monitor, sets) == 1416, "the rules' sets are behind the tracker's 1,416 bytes");
+POMTVIA_STATIC_ASSERT(offsetof(struct pomtvia_monitor, fields) == 1672, "the rules' fields stand last");
 
-/* ---- the hook */
+/* ---- functions on a monitor */
 
-/* What a call gets: its answer. The monitor holds the state after it. A refused or inhibited call leaves every byte of the monitor as it
- * was. The monitor is copied, worked on and stored back; pomtvia_call below does the same where it lies. */
+/* Makes a fresh monitor: no live process, no rules, no items anywhere, no links, every descriptor closed, every name unbound. */
+void pomtvia_new(struct pomtvia_monitor *m);
+
+/* What a call gets: its answer. The monitor holds the state after it, worked out where it lies. A refused or inhibited call leaves every
+ * byte of every field as it was. */
+uint32_t pomtvia_call(struct pomtvia_monitor *m, uint8_t kind, uint8_t process, uint8_t a, uint8_t b, uint8_t c);
+
+/* The hook of document 01, as pomtvia_call: the monitor is copied, worked on and stored back. */
 uint32_t pomtvia_on_call(struct pomtvia_monitor *m, uint8_t kind, uint8_t process, uint8_t a, uint8_t b, uint8_t c);
 
-/* ---- the functions of the archive that the inline functions below call, on the fields one by one */
-
-void pomtvia_renew_in(uint64_t *live, uint64_t *items, uint64_t *feeders, uint64_t *fed, uint8_t *descriptors, uint8_t *names,
-                      uint8_t *tags, uint8_t *ruled, uint64_t *sets, uint8_t *actions, uint8_t *substitutes, uint8_t *loaded);
-uint32_t pomtvia_call_in(uint64_t *live, uint64_t *items, uint64_t *feeders, uint64_t *fed, uint8_t *descriptors, uint8_t *names,
-                         const uint8_t *tags, const uint8_t *ruled, const uint64_t *sets, const uint8_t *actions,
-                         const uint8_t *substitutes, uint8_t loaded, uint8_t kind, uint8_t process, uint8_t a, uint8_t b, uint8_t c);
-uint32_t pomtvia_answer_in(uint64_t *live, uint64_t *items, uint64_t *feeders, uint64_t *fed, uint8_t *descriptors, uint8_t *names,
-                           uint8_t *tags, uint8_t *ruled, uint64_t *sets, uint8_t *actions, uint8_t *substitutes, uint8_t *loaded,
-                           const uint8_t *bytes, size_t length);
-uint8_t pomtvia_run_in(uint64_t *live, uint64_t *items, uint64_t *feeders, uint64_t *fed, uint8_t *descriptors, uint8_t *names,
-                       uint8_t *tags, uint8_t *ruled, uint64_t *sets, uint8_t *actions, uint8_t *substitutes, uint8_t *loaded,
-                       const uint8_t *log, size_t length, uint32_t *codes, size_t room, uint64_t *count);
-uint8_t pomtvia_items_in(uint64_t live, const uint64_t *items, const uint64_t *feeders, const uint64_t *fed, const uint8_t *descriptors,
-                         const uint8_t *names, uint8_t container, uint64_t *set);
-uint8_t pomtvia_holders_in(uint64_t live, const uint64_t *items, const uint64_t *feeders, const uint64_t *fed, const uint8_t *descriptors,
-                           const uint8_t *names, uint8_t item, uint16_t *out, size_t room, uint64_t *count);
+/* The items of a container: 0, and *set has bit i where the container may hold item i. POMTVIA_OUT_OF_RANGE where the number is above 63;
+ * then *set is as it was. */
+uint8_t pomtvia_items(const struct pomtvia_monitor *m, uint8_t container, uint64_t *set);
 
 /* The place after the record that begins at a place of a log, whole or cut short; the place itself at the log's end or behind it. */
 size_t pomtvia_next(const uint8_t *log, size_t length, size_t at);
 
-/* ---- functions on a monitor */
+/* ---- functions of the archive that the inline functions below call, which take NULL for what is empty; these do not */
 
-#define POMTVIA_TRACKER_(m) &(m)->live, (m)->items, (m)->feeders, (m)->fed, (m)->descriptors, (m)->names
-#define POMTVIA_TABLES_(m) (m)->tags, (m)->ruled, (m)->sets, (m)->actions, (m)->substitutes
-#define POMTVIA_SHARED_(m) (m)->live, (m)->items, (m)->feeders, (m)->fed, (m)->descriptors, (m)->names
-
-/* Makes a fresh monitor: no live process, no rules, no items anywhere, no links, every descriptor closed, every name unbound. */
-static inline void pomtvia_new(struct pomtvia_monitor *m)
-{
-    pomtvia_renew_in(POMTVIA_TRACKER_(m), POMTVIA_TABLES_(m), &m->loaded);
-}
-
-/* As pomtvia_on_call, where the monitor lies. */
-static inline uint32_t pomtvia_call(struct pomtvia_monitor *m, uint8_t kind, uint8_t process, uint8_t a, uint8_t b, uint8_t c)
-{
-    return pomtvia_call_in(POMTVIA_TRACKER_(m), POMTVIA_TABLES_(m), m->loaded, kind, process, a, b, c);
-}
+uint32_t pomtvia_answer_in(struct pomtvia_monitor *m, const uint8_t *bytes, size_t length);
+uint8_t pomtvia_run_in(struct pomtvia_monitor *m, const uint8_t *log, size_t length, uint32_t *codes, size_t room, uint64_t *count);
+uint8_t pomtvia_holders_in(const struct pomtvia_monitor *m, uint8_t item, uint16_t *out, size_t room, uint64_t *count);
 
 /* What the record at the front of the bytes gets: a call, or a rule to load. Too few bytes are POMTVIA_CUT_SHORT. Bytes behind the record
- * are not looked at. A refused or inhibited record leaves every byte of the monitor as it was. */
+ * are not looked at. A refused or inhibited record leaves every byte of every field as it was. */
 static inline uint32_t pomtvia_answer(struct pomtvia_monitor *m, const uint8_t *bytes, size_t length)
 {
     static const uint8_t none[1] = {0};
-    return pomtvia_answer_in(POMTVIA_TRACKER_(m), POMTVIA_TABLES_(m), &m->loaded, bytes ? bytes : none, bytes ? length : 0);
+    return pomtvia_answer_in(m, bytes ? bytes : none, bytes ? length : 0);
 }
 
 /* Answers the records of a log in order, each on the monitor as the one before left it. 0: the answers stand at the front of `answers`,
@@ -188,15 +168,7 @@ static inline uint8_t pomtvia_run(struct pomtvia_monitor *m, const uint8_t *log,
 {
     static const uint8_t none[1] = {0};
     uint32_t nowhere[1] = {0};
-    return pomtvia_run_in(POMTVIA_TRACKER_(m), POMTVIA_TABLES_(m), &m->loaded, log ? log : none, log ? length : 0,
-                          answers ? answers : nowhere, answers ? room : 0, count);
-}
-
-/* The items of a container: 0, and *set has bit i where the container may hold item i. POMTVIA_OUT_OF_RANGE where the number is above 63;
- * then *set is as it was. */
-static inline uint8_t pomtvia_items(const struct pomtvia_monitor *m, uint8_t container, uint64_t *set)
-{
-    return pomtvia_items_in(POMTVIA_SHARED_(m), container, set);
+    return pomtvia_run_in(m, log ? log : none, log ? length : 0, answers ? answers : nowhere, answers ? room : 0, count);
 }
 
 /* The containers that hold an item: 0, *count is how many, and their numbers stand at the front of `out`, each once, in no stated order.
@@ -205,7 +177,7 @@ static inline uint8_t pomtvia_items(const struct pomtvia_monitor *m, uint8_t con
 static inline uint8_t pomtvia_holders(const struct pomtvia_monitor *m, uint8_t item, uint16_t *out, size_t room, uint64_t *count)
 {
     uint16_t nowhere[1] = {0};
-    return pomtvia_holders_in(POMTVIA_SHARED_(m), item, out ? out : nowhere, out ? room : 0, count);
+    return pomtvia_holders_in(m, item, out ? out : nowhere, out ? room : 0, count);
 }
 
 #ifdef __cplusplus

@@ -1,8 +1,9 @@
 //! Pomtvia for Rust: a data flow tracker for the system calls of a small box.
 //!
-//! A [`Monitor`] is a tracker with its rules. Every method is safe to call with any value: the functions behind them are proved for every
-//! monitor and all bytes, and what they ask of memory (pointers that hold as much as is said, nothing shared while it is written) follows
-//! from the types here. Nothing is allocated.
+//! A [`Monitor`] is a tracker with its rules. [`Monitor::new`] makes it and its methods alone change it, so no loaded rule is ever broken in
+//! it; for every such monitor and all bytes the functions behind the methods are proved to answer as document 01 says. Every method is safe
+//! to call with any value: what the functions ask of memory (pointers that hold as much as is said, nothing shared while it is written)
+//! follows from the types here. Nothing is allocated.
 #![no_std]
 
 mod archive;
@@ -68,22 +69,15 @@ pub struct Call {
 #[repr(C)]
 #[derive(Clone, PartialEq, Eq)]
 pub struct Monitor {
-    live: u64,
-    items: [u64; 64],
-    feeders: [u64; 16],
-    fed: [u64; 16],
+    words: [u64; 97],
     descriptors: [u8; 512],
     names: [u8; 128],
-    tags: [u8; 32],
-    ruled: [u8; 32],
     sets: [u64; 32],
-    actions: [u8; 32],
-    substitutes: [u8; 32],
-    loaded: u8,
+    fields: [u8; 129],
 }
 
 /// The name, place and size of each field and of the whole, for tests that compare layouts.
-pub fn layout() -> [(&'static str, usize, usize); 13] {
+pub fn layout() -> [(&'static str, usize, usize); 6] {
     use core::mem::{size_of, size_of_val};
     let m = Monitor::new();
     let start = &m as *const Monitor as usize;
@@ -93,18 +87,11 @@ pub fn layout() -> [(&'static str, usize, usize); 13] {
         };
     }
     [
-        field!(live),
-        field!(items),
-        field!(feeders),
-        field!(fed),
+        field!(words),
         field!(descriptors),
         field!(names),
-        field!(tags),
-        field!(ruled),
         field!(sets),
-        field!(actions),
-        field!(substitutes),
-        field!(loaded),
+        field!(fields),
         ("all", 0, size_of::<Monitor>()),
     ]
 }
@@ -128,18 +115,11 @@ impl Monitor {
     /// A fresh tracker: nothing live, nothing held, nothing open, no rules.
     pub fn new() -> Monitor {
         let mut m = Monitor {
-            live: 0,
-            items: [0; 64],
-            feeders: [0; 16],
-            fed: [0; 16],
+            words: [0; 97],
             descriptors: [0; 512],
             names: [0; 128],
-            tags: [0; 32],
-            ruled: [0; 32],
             sets: [0; 32],
-            actions: [0; 32],
-            substitutes: [0; 32],
-            loaded: 0,
+            fields: [0; 129],
         };
         m.renew();
         m
@@ -147,78 +127,26 @@ impl Monitor {
 
     /// Makes the monitor fresh again.
     pub fn renew(&mut self) {
-        // Every reference is to a field of its own, of the size that the function takes.
-        unsafe {
-            c::pomtvia_renew_in(
-                &mut self.live,
-                &mut self.items,
-                &mut self.feeders,
-                &mut self.fed,
-                &mut self.descriptors,
-                &mut self.names,
-                &mut self.tags,
-                &mut self.ruled,
-                &mut self.sets,
-                &mut self.actions,
-                &mut self.substitutes,
-                &mut self.loaded,
-            )
-        }
+        // The reference is to a whole monitor, whose layout is the library's.
+        unsafe { c::pomtvia_new(self) }
     }
 
     /// What a call gets, by the hook: the monitor is copied, worked on and stored back.
     pub fn on_call(&mut self, q: Call) -> Answer {
-        // The reference is to a whole monitor, whose layout is the library's.
+        // As in `renew`.
         Answer::given(unsafe { c::pomtvia_on_call(self, q.kind, q.process, q.a, q.b, q.c) })
     }
 
     /// What a call gets, worked out where the monitor lies.
     pub fn call(&mut self, q: Call) -> Answer {
-        // As in `renew`; the tables of rules are only read.
-        Answer::given(unsafe {
-            c::pomtvia_call_in(
-                &mut self.live,
-                &mut self.items,
-                &mut self.feeders,
-                &mut self.fed,
-                &mut self.descriptors,
-                &mut self.names,
-                &self.tags,
-                &self.ruled,
-                &self.sets,
-                &self.actions,
-                &self.substitutes,
-                self.loaded,
-                q.kind,
-                q.process,
-                q.a,
-                q.b,
-                q.c,
-            )
-        })
+        // As in `renew`.
+        Answer::given(unsafe { c::pomtvia_call(self, q.kind, q.process, q.a, q.b, q.c) })
     }
 
     /// What the record at the front of the bytes gets.
     pub fn answer(&mut self, bytes: &[u8]) -> Answer {
         // As in `renew`; the slice holds as many bytes as its length says.
-        Answer::given(unsafe {
-            c::pomtvia_answer_in(
-                &mut self.live,
-                &mut self.items,
-                &mut self.feeders,
-                &mut self.fed,
-                &mut self.descriptors,
-                &mut self.names,
-                &mut self.tags,
-                &mut self.ruled,
-                &mut self.sets,
-                &mut self.actions,
-                &mut self.substitutes,
-                &mut self.loaded,
-                bytes.as_ptr(),
-                bytes.len(),
-            )
-        })
+        Answer::given(unsafe { c::pomtvia_answer_in(self, bytes.as_ptr(), bytes.len()) })
     }
 
     /// Answers the records of a log in order. Their codes go to the front of `codes`, and the result is how many they are. Refused with 13
@@ -227,25 +155,7 @@ impl Monitor {
         let mut count = 0;
         // As in `answer`; `codes` is borrowed apart from the monitor and the log.
         let refusal = unsafe {
-            c::pomtvia_run_in(
-                &mut self.live,
-                &mut self.items,
-                &mut self.feeders,
-                &mut self.fed,
-                &mut self.descriptors,
-                &mut self.names,
-                &mut self.tags,
-                &mut self.ruled,
-                &mut self.sets,
-                &mut self.actions,
-                &mut self.substitutes,
-                &mut self.loaded,
-                log.as_ptr(),
-                log.len(),
-                codes.as_mut_ptr(),
-                codes.len(),
-                &mut count,
-            )
+            c::pomtvia_run_in(self, log.as_ptr(), log.len(), codes.as_mut_ptr(), codes.len(), &mut count)
         };
         unless_refused(refusal, count as usize)
     }
@@ -253,19 +163,8 @@ impl Monitor {
     /// The items of a container, bit i for item i. Refused with 5 where the number is above 63.
     pub fn items(&self, container: u8) -> Result<u64, Refusal> {
         let mut set = 0;
-        // As in `renew`; the fields are only read.
-        let refusal = unsafe {
-            c::pomtvia_items_in(
-                self.live,
-                &self.items,
-                &self.feeders,
-                &self.fed,
-                &self.descriptors,
-                &self.names,
-                container,
-                &mut set,
-            )
-        };
+        // As in `renew`; the monitor is only read.
+        let refusal = unsafe { c::pomtvia_items(self, container, &mut set) };
         unless_refused(refusal, set)
     }
 
@@ -274,20 +173,7 @@ impl Monitor {
     pub fn holders(&self, item: u8, out: &mut [u16]) -> Result<usize, Refusal> {
         let mut count = 0;
         // As in `items`; `out` is borrowed apart from the monitor.
-        let refusal = unsafe {
-            c::pomtvia_holders_in(
-                self.live,
-                &self.items,
-                &self.feeders,
-                &self.fed,
-                &self.descriptors,
-                &self.names,
-                item,
-                out.as_mut_ptr(),
-                out.len(),
-                &mut count,
-            )
-        };
+        let refusal = unsafe { c::pomtvia_holders_in(self, item, out.as_mut_ptr(), out.len(), &mut count) };
         unless_refused(refusal, count as usize)
     }
 }

@@ -1,0 +1,195 @@
+/* Monitors of any bytes, by what pomtvia.h promises of them: every function ends and stays within its memory, the ways of a call refuse the
+ * same, a refused or inhibited call leaves every field as it was, and the two queries agree. The argument is how many monitors are tried.
+ * Writes how many calls were refused, inhibited and passed; status 1 with a line where a promise is broken. */
+#include <stdio.h>
+#include <stdlib.h>
+#include <string.h>
+
+#include "pomtvia.h"
+
+enum { GUARD = 64, CODES = 24, LOG = 64, FIELDS = offsetof(struct pomtvia_monitor, fields) + 129 };
+
+/* What a function is lent, with bytes around it that it must leave. */
+struct lent {
+    uint8_t before[GUARD];
+    struct pomtvia_monitor monitor;
+    uint8_t between[GUARD];
+    uint32_t codes[CODES];
+    uint8_t beside[GUARD];
+    uint16_t out[POMTVIA_CONTAINERS];
+    uint8_t after[GUARD];
+};
+
+static uint64_t seed = 88172645463325252u;
+static unsigned long refused, inhibited, passed;
+
+static uint64_t any(void)
+{
+    seed ^= seed << 13;
+    seed ^= seed >> 7;
+    seed ^= seed << 17;
+    return seed;
+}
+
+static uint8_t below(unsigned n)
+{
+    return (uint8_t)(any() % n);
+}
+
+static void must(int holds, const char *what)
+{
+    if (!holds) {
+        printf("broken: %s\n", what);
+        exit(1);
+    }
+}
+
+static int guarded(const struct lent *l)
+{
+    uint8_t kept[GUARD];
+    memset(kept, 0xA5, GUARD);
+    return !memcmp(l->before, kept, GUARD) && !memcmp(l->between, kept, GUARD) && !memcmp(l->beside, kept, GUARD)
+           && !memcmp(l->after, kept, GUARD);
+}
+
+/* Any bytes; every second monitor has live processes, few items, and descriptors and names that lead somewhere, so that calls are made. */
+static void fill(struct pomtvia_monitor *m, int likely)
+{
+    uint8_t *bytes = (uint8_t *)m;
+    for (size_t k = 0; k < sizeof *m; k++)
+        bytes[k] = below(256);
+    if (!likely)
+        return;
+    m->words[0] |= any();
+    for (size_t k = 1; k < 97; k++)
+        m->words[k] &= any() & any() & any();
+    for (size_t k = 0; k < sizeof m->descriptors; k++)
+        m->descriptors[k] = below(4) ? below(POMTVIA_CONTAINERS) : 255;
+    for (size_t k = 0; k < sizeof m->names; k++)
+        m->names[k] = below(4) ? below(POMTVIA_CONTAINERS) : 255;
+    for (size_t k = 0; k < 32; k++)
+        m->sets[k] &= any() & any();
+    m->fields[128] = below(2) ? below(4) : below(256);
+}
+
+static int is_refused(uint32_t answer)
+{
+    return POMTVIA_WORD(answer) == POMTVIA_REFUSED;
+}
+
+/* One call in each way. */
+static void check_call(struct lent *l, const struct pomtvia_monitor *was)
+{
+    uint8_t r[8] = {POMTVIA_TAG_CALL, 0, 5, below(21), below(17), below(33), 0, 0};
+    uint32_t answers[3];
+    /* most kinds take fields that are 0 */
+    if (below(3) == 0)
+        r[6] = below(33);
+    if (below(4) == 0)
+        r[7] = below(65);
+    if (r[3] == POMTVIA_LABEL && below(2))
+        r[4] = 0;
+    for (int way = 0; way < 3; way++) {
+        struct pomtvia_monitor *m = &l->monitor;
+        memcpy(m, was, sizeof *m);
+        answers[way] = way == 0   ? pomtvia_call(m, r[3], r[4], r[5], r[6], r[7])
+                       : way == 1 ? pomtvia_on_call(m, r[3], r[4], r[5], r[6], r[7])
+                                  : pomtvia_answer(m, r, sizeof r);
+        unsigned word = POMTVIA_WORD(answers[way]);
+        must(word <= POMTVIA_MODIFY || word == POMTVIA_REFUSED, "a call gets a word of its own");
+        if (word == POMTVIA_REFUSED || word == POMTVIA_INHIBIT)
+            must(!memcmp(m, was, FIELDS), "a stopped call leaves every field");
+        must(!is_refused(answers[0]) || answers[way] == answers[0], "a call is refused alike");
+        must(is_refused(answers[0]) == is_refused(answers[way]), "a call is refused in every way");
+        must(guarded(l), "a call stays within the monitor");
+        refused += word == POMTVIA_REFUSED;
+        inhibited += word == POMTVIA_INHIBIT;
+        passed += word == POMTVIA_ALLOW || word == POMTVIA_MODIFY;
+    }
+}
+
+/* Any log: bytes, or records of the tags. */
+static void check_log(struct lent *l, const struct pomtvia_monitor *was)
+{
+    uint8_t log[LOG];
+    size_t records = 0;
+    for (size_t k = 0; k < LOG; k++)
+        log[k] = below(40);
+    int records_too = below(2);
+    for (size_t at = 0; records_too && at + POMTVIA_RECORD_MAX <= LOG; at += 8) {
+        uint8_t tag = (uint8_t)(POMTVIA_TAG_CALL + below(4));
+        log[at] = tag;
+        log[at + 1] = 0;
+        log[at + 2] = tag == POMTVIA_TAG_CALL ? 5 : tag == POMTVIA_TAG_SEPARATE ? 4 : 11;
+    }
+    for (size_t at = 0; at < LOG; at = pomtvia_next(log, LOG, at))
+        records++;
+    for (size_t room = records ? records - 1 : 0; room <= CODES; room++) {
+        uint64_t count = 999;
+        memcpy(&l->monitor, was, sizeof *was);
+        memset(l->codes, 0xEE, sizeof l->codes);
+        uint8_t refusal = pomtvia_run(&l->monitor, log, LOG, l->codes, room, &count);
+        must(refusal == (room < records ? POMTVIA_SLICE_SHORT : 0), "a log is refused for its room alone");
+        must(count == (refusal ? 999 : records), "a log has an answer for each record");
+        must(!refusal || !memcmp(&l->monitor, was, FIELDS), "a refused log leaves every field");
+        for (size_t k = refusal ? 0 : records; k < CODES; k++)
+            must(l->codes[k] == 0xEEEEEEEEu, "codes behind the answers are as they were");
+        must(guarded(l), "a log stays within the monitor and the codes");
+    }
+}
+
+/* The queries on the bytes themselves. */
+static void check_queries(struct lent *l, const struct pomtvia_monitor *was)
+{
+    uint64_t sets[POMTVIA_CONTAINERS + 1];
+    memcpy(&l->monitor, was, sizeof *was);
+    for (unsigned c = 0; c <= POMTVIA_CONTAINERS; c++) {
+        uint8_t refusal = pomtvia_items(&l->monitor, (uint8_t)c, &sets[c]);
+        must(refusal == (c < POMTVIA_CONTAINERS ? 0 : POMTVIA_OUT_OF_RANGE), "items of a container");
+    }
+    for (unsigned i = 0; i <= POMTVIA_ITEMS; i++) {
+        uint64_t count = 999, held = 0, listed = 0;
+        uint8_t refusal = pomtvia_holders(&l->monitor, (uint8_t)i, l->out, POMTVIA_CONTAINERS, &count);
+        if (i == POMTVIA_ITEMS) {
+            must(refusal == POMTVIA_OUT_OF_RANGE && count == 999, "holders of an item above 63");
+            continue;
+        }
+        must(refusal == 0 && count <= POMTVIA_CONTAINERS, "holders of an item");
+        for (unsigned c = 0; c < POMTVIA_CONTAINERS; c++)
+            held |= (sets[c] >> i & 1) << c;
+        for (uint64_t k = 0; k < count; k++) {
+            must(l->out[k] < POMTVIA_CONTAINERS && !(listed >> l->out[k] & 1), "each holder once");
+            listed |= (uint64_t)1 << l->out[k];
+        }
+        must(listed == held, "the queries agree");
+    }
+    must(!memcmp(&l->monitor, was, sizeof *was) && guarded(l), "a query changes nothing");
+}
+
+int main(int argc, char **argv)
+{
+    long tries = argc > 1 ? atol(argv[1]) : 1000;
+    struct lent *l = malloc(sizeof *l);
+    struct pomtvia_monitor *was = malloc(sizeof *was);
+    if (!l || !was)
+        return 2;
+    memset(l, 0xA5, sizeof *l);
+    for (long k = 0; k < tries; k++) {
+        fill(was, k % 2 == 1);
+        for (int call = 0; call < 8; call++)
+            check_call(l, was);
+        check_log(l, was);
+        check_queries(l, was);
+        memcpy(&l->monitor, was, sizeof *was);
+        pomtvia_new(&l->monitor);
+        must(guarded(l), "a fresh monitor stays within its memory");
+        for (size_t f = 0; f < FIELDS; f++) {
+            int closed = f >= offsetof(struct pomtvia_monitor, descriptors) && f < offsetof(struct pomtvia_monitor, sets);
+            must(((uint8_t *)&l->monitor)[f] == (closed ? 255 : 0), "a fresh monitor has nothing, whatever was there");
+        }
+    }
+    printf("refused %lu inhibited %lu passed %lu\n", refused, inhibited, passed);
+    free(l);
+    free(was);
+    return 0;
+}
