@@ -10,7 +10,7 @@ use Rattle.flow.specs.Links.{given}
 use Rattle.flow.specs.Calls.{Change, itemsAfter}
 use Rattle.store.specs.declared.Plan.{Plan}
 
--- a state but for its
+-- a state but for its rules
 pub record Maps : Type 0 where
   pub tables : Tables
   pub items : List ℕ

@@ -30,7 +30,7 @@ planOf m (exchange a b) = plan 0 (getD (m .items) a 0) (reach (m .tables) b) (ge
 planOf m (copy a b) = plan (only b) (getD (m .items) a 0) (only b) 0 0
 planOf m (clear u) = empties (only u)
 
--- the set of v where no link isTarget into c
+-- the set of v where no link leads into c
 unfoldable pub freeSet : Tables → ℕ → ℕ → ℕ
 freeSet t c v = elim (isFed t c) [ true ↦ 0 | false ↦ only v ]
 
@@ -61,7 +61,7 @@ planAt m q none = empties 0
 planAt m q (some k) = planBy m (q .process) (q .a) (q .b) (q .c) k
 
 -- ---- uses that may end
--- the files and pipes that process q isTarget to or maps
+-- the files and pipes that process q leads to or maps
 unfoldable pub heldBy : Tables → ℕ → ℕ
 heldBy t q = filesIn (block (t .descriptors) q) ∪ ((feedersOf t q ∪ feeds t q) ∩ files)
 
