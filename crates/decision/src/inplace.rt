@@ -37,7 +37,7 @@ ghost use Rattle.flow.specs.Calls.{Call as Asked};
 ghost use Rattle.flow.specs.Records.{aCall, aRule};
 ghost use Rattle.tracker.specs.Rows.{callIn, Passes};
 ghost use Rattle.rules.specs.Stored.{ruleFrom};
-ghost use Rattle.decision.specs.View.{monitor};
+ghost use Rattle.decision.specs.View.{monitor, monitorBefore, monitorAfter};
 ghost use Rattle.decision.specs.Logs.{AnswersLog};
 ghost use Rattle.decision.specs.Answers.{IsFresh, AnswersRecord, Answers, AnswersStopped};
 
@@ -55,7 +55,7 @@ pub fn renew(
     sets: &mut [u64; 32],
     fields: &mut [u8; 129],
 )
-    ensures { λ _. ⌜ IsFresh (monitor (now (words .exit)) (now (descriptors .exit)) (now (names .exit)) (now (sets .exit)) (now (fields .exit))) ⌝ }
+    ensures { λ _. ⌜ IsFresh (monitorAfter words descriptors names sets fields) ⌝ }
 {
     *words = [0u64; 97];
     *descriptors = [Tracker::CLOSED; 512];
@@ -75,7 +75,7 @@ fn stop_in(
     k: u8,
 ) -> Answer
     requires { ⌜ (k < ruleCount) × Passes (now words) (now descriptors) (now names) q ⌝ }
-    ensures { λ r. ⌜ ((x : Asked) → callIn q ≡ some x → AnswersStopped (monitor (now (words .entry)) (now (descriptors .entry)) (now (names .entry)) (now (sets .entry)) (now (fields .entry))) x k (record { answer = r; monitor = monitor (now (words .exit)) (now (descriptors .entry)) (now (names .entry)) (now (sets .entry)) (now (fields .entry)) })) ⌝ }
+    ensures { λ r. ⌜ ((x : Asked) → callIn q ≡ some x → AnswersStopped (monitorBefore words descriptors names sets fields) x k (record { answer = r; monitor = monitorAfter words descriptors names sets fields })) ⌝ }
 {
     sizes(words, names);
     let diverts = stored::action(fields, k) == DIVERT;
@@ -104,7 +104,7 @@ pub fn call_in(
     fields: &[u8; 129],
     q: Call,
 ) -> Answer
-    ensures { λ r. ⌜ Answers (monitor (now (words .entry)) (now (descriptors .entry)) (now (names .entry)) (now (sets .entry)) (now (fields .entry))) (aCall (callIn q)) (record { answer = r; monitor = monitor (now (words .exit)) (now (descriptors .exit)) (now (names .exit)) (now (sets .entry)) (now (fields .entry)) }) ⌝ }
+    ensures { λ r. ⌜ Answers (monitorBefore words descriptors names sets fields) (aCall (callIn q)) (record { answer = r; monitor = monitorAfter words descriptors names sets fields }) ⌝ }
 {
     sizes(words, names);
     let n = refusal(words, descriptors, names, q);
@@ -153,7 +153,7 @@ pub fn answer_in(
     fields: &mut [u8; 129],
     bytes: &[u8],
 ) -> Answer
-    ensures { λ r. ⌜ AnswersRecord (monitor (now (words .entry)) (now (descriptors .entry)) (now (names .entry)) (now (sets .entry)) (now (fields .entry))) (now (bytes .entry)) (record { answer = r; monitor = monitor (now (words .exit)) (now (descriptors .exit)) (now (names .exit)) (now (sets .exit)) (now (fields .exit)) }) ⌝ }
+    ensures { λ r. ⌜ AnswersRecord (monitorBefore words descriptors names sets fields) (now (bytes .entry)) (record { answer = r; monitor = monitorAfter words descriptors names sets fields }) ⌝ }
 {
     let record = read(bytes);
     match record {
@@ -224,7 +224,7 @@ pub fn run_in(
     log: &[u8],
     codes: &mut [u32],
 ) -> Reply
-    ensures { λ r. ⌜ AnswersLog (monitor (now (words .entry)) (now (descriptors .entry)) (now (names .entry)) (now (sets .entry)) (now (fields .entry))) (now (log .entry)) (now (codes .entry)) (record { reply = r; monitor = monitor (now (words .exit)) (now (descriptors .exit)) (now (names .exit)) (now (sets .exit)) (now (fields .exit)) }) (now (codes .exit)) ⌝ }
+    ensures { λ r. ⌜ AnswersLog (monitorBefore words descriptors names sets fields) (now (log .entry)) (now (codes .entry)) (record { reply = r; monitor = monitorAfter words descriptors names sets fields }) (now (codes .exit)) ⌝ }
 {
     if codes.len() < records_in(log) {
         return Reply::Refused(13);

@@ -1,7 +1,7 @@
 // The functions for C on a monitor's arrays: answers as codes, a query's answer as two numbers.
 ghost use Rattle.flow.specs.Records.{callFrom};
 ghost use Rattle.tracker.specs.Replies.{replyOf};
-ghost use Rattle.decision.specs.View.{monitor};
+ghost use Rattle.decision.specs.View.{monitorBefore, monitorAfter};
 ghost use Rattle.decision.specs.Answers.{AnswersRecord, AnswersCall};
 ghost use Rattle.hook.specs.Codes.{Coded, Given, AnswersLogGiven, ItemsGiven, HoldersGiven};
 use decision::inplace::answer_in;
@@ -38,7 +38,7 @@ pub fn call_lent(
     b: u8,
     c: u8,
 ) -> u32
-    ensures { λ r. ⌜ Coded (AnswersCall (monitor (now (words .entry)) (now (descriptors .entry)) (now (names .entry)) (now (sets .entry)) (now (fields .entry))) kind p a b c) r (monitor (now (words .exit)) (now (descriptors .exit)) (now (names .exit)) (now (sets .entry)) (now (fields .entry))) ⌝ }
+    ensures { λ r. ⌜ Coded (AnswersCall (monitorBefore words descriptors names sets fields) kind p a b c) r (monitorAfter words descriptors names sets fields) ⌝ }
 {
     let q = Call {
         kind,
@@ -59,7 +59,7 @@ pub fn answer_lent(
     fields: &mut [u8; 129],
     bytes: &[u8],
 ) -> u32
-    ensures { λ r. ⌜ Coded (AnswersRecord (monitor (now (words .entry)) (now (descriptors .entry)) (now (names .entry)) (now (sets .entry)) (now (fields .entry))) (now (bytes .entry))) r (monitor (now (words .exit)) (now (descriptors .exit)) (now (names .exit)) (now (sets .exit)) (now (fields .exit))) ⌝ }
+    ensures { λ r. ⌜ Coded (AnswersRecord (monitorBefore words descriptors names sets fields) (now (bytes .entry))) r (monitorAfter words descriptors names sets fields) ⌝ }
 {
     let answer = answer_in(words, descriptors, names, sets, fields, bytes);
     code(answer)
@@ -75,7 +75,7 @@ pub fn run_lent(
     codes: &mut [u32],
     count: &mut u64,
 ) -> u8
-    ensures { λ r. ⌜ AnswersLogGiven (monitor (now (words .entry)) (now (descriptors .entry)) (now (names .entry)) (now (sets .entry)) (now (fields .entry))) (now (log .entry)) (now (codes .entry)) (now (count .entry)) r (monitor (now (words .exit)) (now (descriptors .exit)) (now (names .exit)) (now (sets .exit)) (now (fields .exit))) (now (codes .exit)) (now (count .exit)) ⌝ }
+    ensures { λ r. ⌜ AnswersLogGiven (monitorBefore words descriptors names sets fields) (now (log .entry)) (now (codes .entry)) (now (count .entry)) r (monitorAfter words descriptors names sets fields) (now (codes .exit)) (now (count .exit)) ⌝ }
 {
     let reply = run_in(words, descriptors, names, sets, fields, log, codes);
     give(reply, count)
@@ -91,7 +91,7 @@ pub fn items_lent(
     c: u8,
     set: &mut u64,
 ) -> u8
-    ensures { λ r. ⌜ ItemsGiven (monitor (now (words .entry)) (now (descriptors .entry)) (now (names .entry)) (now (sets .entry)) (now (fields .entry))) c (now (set .entry)) r (now (set .exit)) ⌝ }
+    ensures { λ r. ⌜ ItemsGiven (monitorBefore words descriptors names sets fields) c (now (set .entry)) r (now (set .exit)) ⌝ }
 {
     let reply = items_in(words, c);
     give(reply, set)
@@ -107,7 +107,7 @@ pub fn holders_lent(
     out: &mut [u16],
     count: &mut u64,
 ) -> u8
-    ensures { λ r. ⌜ HoldersGiven (monitor (now (words .entry)) (now (descriptors .entry)) (now (names .entry)) (now (sets .entry)) (now (fields .entry))) i (now (out .entry)) (now (count .entry)) r (now (out .exit)) (now (count .exit)) ⌝ }
+    ensures { λ r. ⌜ HoldersGiven (monitorBefore words descriptors names sets fields) i (now (out .entry)) (now (count .entry)) r (now (out .exit)) (now (count .exit)) ⌝ }
 {
     let reply = holders_in(words, i, out);
     give(reply, count)

@@ -3,6 +3,8 @@ use Prim.Native.Nat.{ℕ}
 use mathlib.Core.Bool.{true, false}
 use mathlib.Core.List.{List, [], _∷_}
 use lib.ListN.{getD, take, drop}
+use denote.Ref.{RefT}
+use denote.Triple.Both.{Both}
 use Rattle.sets.specs.Sets.{has, only, _∪_}
 use Rattle.flow.specs.Lists.{table}
 use Rattle.flow.specs.Box.{containerCount, processCount, isFile, Tables}
@@ -48,6 +50,17 @@ view words descriptors names =
           };
       items = itemsIn words;
     }
+
+-- an array that is lent to a function: what it holds at the call (`now (x .entry)`) and at the return (`now (x .exit)`)
+abbrev pub Lent : Type 0
+Lent = Both (RefT (List ℕ)) (RefT (List ℕ))
+
+-- the maps of the lent words, descriptors and names, at the call and at the return
+abbrev pub mapsBefore : Lent → Lent → Lent → Maps
+mapsBefore words descriptors names = view (words .entry .now) (descriptors .entry .now) (names .entry .now)
+
+abbrev pub mapsAfter : Lent → Lent → Lent → Maps
+mapsAfter words descriptors names = view (words .exit .now) (descriptors .exit .now) (names .exit .now)
 
 -- ---- sets that the code works with
 -- the members of all sets of a list

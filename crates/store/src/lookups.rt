@@ -11,7 +11,7 @@ ghost use Rattle.sets.specs.Sets.{has, _∪_};
 ghost use Rattle.flow.specs.Lists.{isIn};
 ghost use Rattle.flow.specs.Box.{isTarget, slot, closed};
 ghost use Rattle.flow.specs.Links.{used, isFed};
-ghost use Rattle.store.specs.Maps.{part, view, unionOf};
+ghost use Rattle.store.specs.Maps.{part, view, unionOf, mapsBefore};
 
 // The mark of a closed descriptor and of an unbound name.
 pub const CLOSED: u8 = 255;
@@ -157,7 +157,7 @@ pub fn is_fed(words: &[u64; 97], c: Container) -> bool
 
 // Whether container c is in use.
 pub fn in_use(words: &[u64; 97], descriptors: &[u8; 512], names: &[u8; 128], c: Container) -> bool
-    ensures { λ r. ⌜ r ≡ used (view (now (words .entry)) (now (descriptors .entry)) (now (names .entry)) .tables) (c .0) ⌝ }
+    ensures { λ r. ⌜ r ≡ used (mapsBefore words descriptors names .tables) (c .0) ⌝ }
 {
     if c.0 < 8 {
         return true;

@@ -14,7 +14,7 @@ ghost use mathlib.Core.Option.{none};
 ghost use Rattle.flow.specs.Lists.{firstThat, refusalFrom};
 ghost use Rattle.flow.specs.Records.{kindOf};
 ghost use Rattle.flow.specs.Refusals.{callTests};
-ghost use Rattle.store.specs.Maps.{view};
+ghost use Rattle.store.specs.Maps.{view, mapsBefore, mapsAfter};
 ghost use Rattle.tracker.specs.Rows.{callIn, Passes};
 ghost use Rattle.tracker.specs.Plans.{planAt};
 ghost use Rattle.tracker.specs.Worked.{done, worked, mapsBy};
@@ -28,7 +28,7 @@ pub fn make(
     plan: Plan,
 )
     requires { ⌜ Passes (now words) (now descriptors) (now names) q × (plan ≡ planAt (view (now words) (now descriptors) (now names)) q (kindOf (q .kind))) ⌝ }
-    ensures { λ _. ⌜ (let m = view (now (words .entry)) (now (descriptors .entry)) (now (names .entry)) in view (now (words .exit)) (now (descriptors .exit)) (now (names .exit)) ≡ mapsBy m (callIn q) none) ⌝ }
+    ensures { λ _. ⌜ (let m = mapsBefore words descriptors names in mapsAfter words descriptors names ≡ mapsBy m (callIn q) none) ⌝ }
 {
     sizes(words, names);
     let lost = lost_by(words, descriptors, names, q);
@@ -44,7 +44,7 @@ pub fn work(
     names: &mut [u8; 128],
     q: Call,
 ) -> u8
-    ensures { λ r. ⌜ done (refusalFrom r) (view (now (words .exit)) (now (descriptors .exit)) (now (names .exit))) ≡ worked (view (now (words .entry)) (now (descriptors .entry)) (now (names .entry))) (callIn q) ⌝ }
+    ensures { λ r. ⌜ done (refusalFrom r) (mapsAfter words descriptors names) ≡ worked (mapsBefore words descriptors names) (callIn q) ⌝ }
 {
     let n = rows::refusal(words, descriptors, names, q);
     if n != 0 {

@@ -12,7 +12,7 @@ ghost use Prim.Native.Nat.{ℕ, _%_};
 ghost use mathlib.Core.Path.{_≡_};
 ghost use mathlib.Core.List.{List};
 ghost use Rattle.flow.specs.Records.{kindOf};
-ghost use Rattle.store.specs.Maps.{view};
+ghost use Rattle.store.specs.Maps.{view, mapsBefore};
 ghost use Rattle.tracker.specs.Rows.{Passes};
 ghost use Rattle.tracker.specs.Plans.{planAt, empties, gives, freeSet};
 
@@ -54,7 +54,7 @@ pub fn giving(x: u64, r: u64) -> Plan
 // The plan of a call that is not refused.
 pub fn plan_of(words: &[u64; 97], descriptors: &[u8; 512], names: &[u8; 128], q: Call) -> Plan
     requires { ⌜ Passes (now words) (now descriptors) (now names) q ⌝ }
-    ensures { λ r. ⌜ r ≡ planAt (view (now (words .entry)) (now (descriptors .entry)) (now (names .entry))) q (kindOf (q .kind)) ⌝ }
+    ensures { λ r. ⌜ r ≡ planAt (mapsBefore words descriptors names) q (kindOf (q .kind)) ⌝ }
 {
     let kind = q.kind;
     let p = q.process;

@@ -17,7 +17,7 @@ ghost use Prim.Native.Nat.{ℕ, _%_, _<_};
 ghost use mathlib.Core.Path.{_≡_};
 ghost use mathlib.Core.List.{List};
 ghost use Rattle.flow.specs.Records.{kindOf};
-ghost use Rattle.store.specs.Maps.{view, withItems, cleared};
+ghost use Rattle.store.specs.Maps.{view, withItems, cleared, mapsBefore, mapsAfter};
 ghost use Rattle.tracker.specs.Rows.{Passes};
 ghost use Rattle.tracker.specs.Plans.{heldBy, lostAt, unusedSet, goneOf};
 
@@ -33,7 +33,7 @@ fn held_by(words: &[u64; 97], descriptors: &[u8; 512], p: u8) -> u64
 // The containers that a call that is not refused may end the use of.
 pub fn lost_by(words: &[u64; 97], descriptors: &[u8; 512], names: &[u8; 128], q: Call) -> u64
     requires { ⌜ Passes (now words) (now descriptors) (now names) q ⌝ }
-    ensures { λ r. ⌜ r ≡ lostAt (view (now (words .entry)) (now (descriptors .entry)) (now (names .entry)) .tables) q (kindOf (q .kind)) ⌝ }
+    ensures { λ r. ⌜ r ≡ lostAt (mapsBefore words descriptors names .tables) q (kindOf (q .kind)) ⌝ }
 {
     let kind = q.kind;
     let p = q.process;
@@ -52,7 +52,7 @@ pub fn lost_by(words: &[u64; 97], descriptors: &[u8; 512], names: &[u8; 128], q:
 
 // The set of v alone, where v is not in use.
 fn unused_set(words: &[u64; 97], descriptors: &[u8; 512], names: &[u8; 128], v: u8) -> u64
-    ensures { λ r. ⌜ r ≡ unusedSet (view (now (words .entry)) (now (descriptors .entry)) (now (names .entry)) .tables) v (v % 64) ⌝ }
+    ensures { λ r. ⌜ r ≡ unusedSet (mapsBefore words descriptors names .tables) v (v % 64) ⌝ }
 {
     if in_use(words, descriptors, names, Container(v)) {
         return 0;
@@ -62,7 +62,7 @@ fn unused_set(words: &[u64; 97], descriptors: &[u8; 512], names: &[u8; 128], v: 
 
 // Of the set lost, those that are not in use.
 fn gone(words: &[u64; 97], descriptors: &[u8; 512], names: &[u8; 128], lost: u64) -> u64
-    ensures { λ r. ⌜ r ≡ goneOf (view (now (words .entry)) (now (descriptors .entry)) (now (names .entry)) .tables) lost ⌝ }
+    ensures { λ r. ⌜ r ≡ goneOf (mapsBefore words descriptors names .tables) lost ⌝ }
 {
     let mut found = 0u64;
     let mut left = lost;
@@ -76,7 +76,7 @@ fn gone(words: &[u64; 97], descriptors: &[u8; 512], names: &[u8; 128], lost: u64
 
 // Empties each container of the set lost that is not in use.
 pub fn release(words: &mut [u64; 97], descriptors: &[u8; 512], names: &[u8; 128], lost: u64)
-    ensures { λ _. ⌜ (let m = view (now (words .entry)) (now (descriptors .entry)) (now (names .entry)) in view (now (words .exit)) (now (descriptors .entry)) (now (names .entry)) ≡ withItems m (cleared (m .items) (goneOf (m .tables) lost))) ⌝ }
+    ensures { λ _. ⌜ (let m = mapsBefore words descriptors names in mapsAfter words descriptors names ≡ withItems m (cleared (m .items) (goneOf (m .tables) lost))) ⌝ }
 {
     let x = gone(words, descriptors, names, lost);
     empty_items(words, x);

@@ -18,7 +18,7 @@ ghost use mathlib.Core.List.{List};
 ghost use Rattle.flow.specs.Lists.{firstThat, refusalFrom};
 ghost use Rattle.flow.specs.Records.{kindOf};
 ghost use Rattle.flow.specs.Refusals.{callTests};
-ghost use Rattle.store.specs.Maps.{view};
+ghost use Rattle.store.specs.Maps.{view, mapsBefore};
 ghost use Rattle.tracker.specs.Rows.{known, fitsAt, deadAt, takenAt, missingAt, sameAt, noFileAt, callIn, lowestOf};
 
 // 4: whether the number is a kind's.
@@ -74,7 +74,7 @@ fn is_dead(words: &[u64; 97], q: Call) -> bool
 
 // 7: what the call is to make is there already.
 fn is_taken(words: &[u64; 97], descriptors: &[u8; 512], names: &[u8; 128], q: Call) -> bool
-    ensures { λ r. ⌜ r ≡ takenAt (view (now (words .entry)) (now (descriptors .entry)) (now (names .entry)) .tables) q (kindOf (q .kind)) ⌝ }
+    ensures { λ r. ⌜ r ≡ takenAt (mapsBefore words descriptors names .tables) q (kindOf (q .kind)) ⌝ }
 {
     let kind = q.kind;
     let p = q.process;
@@ -99,7 +99,7 @@ fn is_taken(words: &[u64; 97], descriptors: &[u8; 512], names: &[u8; 128], q: Ca
 
 // 8: what the call needs is not there.
 fn is_missing(words: &[u64; 97], descriptors: &[u8; 512], names: &[u8; 128], q: Call) -> bool
-    ensures { λ r. ⌜ r ≡ missingAt (view (now (words .entry)) (now (descriptors .entry)) (now (names .entry)) .tables) q (kindOf (q .kind)) ⌝ }
+    ensures { λ r. ⌜ r ≡ missingAt (mapsBefore words descriptors names .tables) q (kindOf (q .kind)) ⌝ }
 {
     let kind = q.kind;
     let p = q.process;
@@ -163,7 +163,7 @@ fn lowest(dead: bool, taken: bool, missing: bool, same: bool, nofile: bool) -> u
 
 // The first of the tests 4 to 10 that holds, or 0.
 pub fn refusal(words: &[u64; 97], descriptors: &[u8; 512], names: &[u8; 128], q: Call) -> u8
-    ensures { λ r. ⌜ refusalFrom r ≡ firstThat (callTests (view (now (words .entry)) (now (descriptors .entry)) (now (names .entry)) .tables) (callIn q)) ⌝ }
+    ensures { λ r. ⌜ refusalFrom r ≡ firstThat (callTests (mapsBefore words descriptors names .tables) (callIn q)) ⌝ }
 {
     if fits(q) {
         return lowest(

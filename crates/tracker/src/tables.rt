@@ -17,7 +17,7 @@ use store::numbers::Name;
 use store::numbers::Process;
 ghost use mathlib.Core.Path.{_≡_};
 ghost use Rattle.flow.specs.Records.{kindOf};
-ghost use Rattle.store.specs.Maps.{view, withTables};
+ghost use Rattle.store.specs.Maps.{withTables, mapsBefore, mapsAfter};
 ghost use Rattle.tracker.specs.Rows.{tablesAt, Passes};
 
 // Makes the tables those after a call that is not refused.
@@ -28,7 +28,7 @@ pub fn change_tables(
     q: Call,
 )
     requires { ⌜ Passes (now words) (now descriptors) (now names) q ⌝ }
-    ensures { λ _. ⌜ (let m = view (now (words .entry)) (now (descriptors .entry)) (now (names .entry)) in view (now (words .exit)) (now (descriptors .exit)) (now (names .exit)) ≡ withTables m (tablesAt (m .tables) q (kindOf (q .kind)))) ⌝ }
+    ensures { λ _. ⌜ (let m = mapsBefore words descriptors names in mapsAfter words descriptors names ≡ withTables m (tablesAt (m .tables) q (kindOf (q .kind)))) ⌝ }
 {
     let kind = q.kind;
     let p = q.process;
