@@ -9,18 +9,6 @@ use Rattle.logreader.proofs.record_at.Tie as tie
 returns : tie.Need-returns
 returns c = end-at _ _ (c .if1 .taken)
 
-sub-extent : tie.Need-sub-extent
-sub-extent c = search needs
-
-part-extent-start : tie.Need-part-extent-start
-part-extent-start c = search needs
-
-part-extent-end : tie.Need-part-extent-end
-part-extent-end c = search needs
-
-extent-requires : tie.Need-extent-requires
-extent-requires c κs = search needs
-
 add-t9 : tie.Need-add-t9
 add-t9 c = omega (arith, tail-fits (c .before .before .before .before .args .log .now) (c .before .before .before .before .args .at) (c .extent .result) (c .extent .ensures) (omega arith))
 
@@ -32,9 +20,9 @@ record-at-spec =
     tie.close
     (tie.spec
     returns
-    sub-extent
-    part-extent-start
-    part-extent-end
-    extent-requires
+    (λ c. search needs)
+    (λ c. search needs)
+    (λ c. search needs)
+    (λ c κs. search needs)
     add-t9
     returns-2)

@@ -7,18 +7,6 @@ use borrow.Author.Needs.{needs}
 use Rattle.records.proofs.extent.Statement.{statement}
 use Rattle.records.proofs.extent.Tie as tie
 
-cut-short-requires : tie.Need-cut-short-requires
-cut-short-requires c κs = search needs
-
-stated-length-requires : tie.Need-stated-length-requires
-stated-length-requires c κs = search needs
-
-cast-result : tie.Need-cast-result
-cast-result c = search needs
-
-add-result : tie.Need-add-result
-add-result c = search needs
-
 returns : tie.Need-returns
 unfolding extentOf
 returns c = sym (chosen-l (cutShort _) _ _ (sym (c .before .cut-short .ensures) ∙ c .if1 .taken))
@@ -30,4 +18,4 @@ returns-2 c = rw (c .stated-length .ensures) (sym (chosen-r (cutShort _) _ _ (sy
 pub extent-spec : {M : Type 1} → statement M
 extent-spec =
     tie.close
-    (tie.spec cut-short-requires stated-length-requires cast-result add-result returns returns-2)
+    (tie.spec (λ c κs. search needs) (λ c κs. search needs) (λ c. search needs) (λ c. search needs) returns returns-2)

@@ -13,30 +13,9 @@ whole : (c : tie.Else1) → firstThat (frameTests (c .before .before .before .ar
 unfolding refusalFrom
 whole c = sym (c .before .refusal .ensures) ∙ ap refusalFrom (c .if1 .left)
 
-refusal-requires : tie.Need-refusal-requires
-refusal-requires c κs = search needs
-
 returns : tie.Need-returns
 unfolding readingOf
 returns c = unread _ _ (c .if1 .taken) (c .before .refusal .ensures)
-
-at-requires : tie.Need-at-requires
-at-requires c κs = search needs
-
-at-requires-2 : tie.Need-at-requires-2
-at-requires-2 c κs = search needs
-
-at-requires-3 : tie.Need-at-requires-3
-at-requires-3 c κs = search needs
-
-at-requires-4 : tie.Need-at-requires-4
-at-requires-4 c κs = search needs
-
-at-requires-5 : tie.Need-at-requires-5
-at-requires-5 c κs = search needs
-
-at-requires-6 : tie.Need-at-requires-6
-at-requires-6 c κs = search needs
 
 returns-2 : tie.Need-returns-2
 unfolding readingOf tagOf
@@ -44,29 +23,11 @@ returns-2 c =
     let d : tie.After-at2 = c .before .before .before .before .before in
     cc (call-read _ (whole (d .before .before)) (sym (d .before .at .ensures) ∙ c .before .before .before .before .if2 .taken))
 
-at-requires-7 : tie.Need-at-requires-7
-at-requires-7 c κs = search needs
-
-at-requires-8 : tie.Need-at-requires-8
-at-requires-8 c κs = search needs
-
-at-requires-9 : tie.Need-at-requires-9
-at-requires-9 c κs = search needs
-
 returns-3 : tie.Need-returns-3
 unfolding readingOf tagOf
 returns-3 c =
     let d : tie.After-at2 = c .before .before .before .before .before in
     cc (separate-read _ (whole (d .before .before)) (sym (d .before .at .ensures) ∙ c .before .before .before .if3 .taken))
-
-set-of-requires : tie.Need-set-of-requires
-set-of-requires c κs = search needs
-
-at-requires-10 : tie.Need-at-requires-10
-at-requires-10 c κs = search needs
-
-at-requires-11 : tie.Need-at-requires-11
-at-requires-11 c κs = search needs
 
 returns-4 : tie.Need-returns-4
 unfolding readingOf tagOf
@@ -86,21 +47,21 @@ pub read-spec : {M : Type 1} → statement M
 read-spec =
     tie.close
     (tie.spec
-    refusal-requires
+    (λ c κs. search needs)
     returns
-    at-requires
-    at-requires-2
-    at-requires-3
-    at-requires-4
-    at-requires-5
-    at-requires-6
+    (λ c κs. search needs)
+    (λ c κs. search needs)
+    (λ c κs. search needs)
+    (λ c κs. search needs)
+    (λ c κs. search needs)
+    (λ c κs. search needs)
     returns-2
-    at-requires-7
-    at-requires-8
-    at-requires-9
+    (λ c κs. search needs)
+    (λ c κs. search needs)
+    (λ c κs. search needs)
     returns-3
-    set-of-requires
-    at-requires-10
-    at-requires-11
+    (λ c κs. search needs)
+    (λ c κs. search needs)
+    (λ c κs. search needs)
     returns-4
     returns-5)

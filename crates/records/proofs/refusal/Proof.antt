@@ -21,28 +21,13 @@ length-wrong : (c : tie.After-length-of) → wrongLength (c .before .before .bef
 unfolding tagOf
 length-wrong c = tested _ _ _ _ (c .before .stated-length .ensures) (c .before .before .before .before .at .ensures) (c .length-of .ensures)
 
-cut-short-requires : tie.Need-cut-short-requires
-cut-short-requires c κs = search needs
-
 returns : tie.Need-returns
 unfolding firstThat refusalFrom
 returns c = sym (framed _ true _ _ (sym (c .before .cut-short .ensures) ∙ c .if1 .taken) refl refl)
 
-at-requires : tie.Need-at-requires
-at-requires c κs = search needs
-
-known-requires : tie.Need-known-requires
-known-requires c κs = search needs
-
 returns-2 : tie.Need-returns-2
 unfolding firstThat refusalFrom
 returns-2 c = sym (framed _ false false _ (uncut (c .before .before .before)) (tag-known (c .before) ∙ not-true _ (c .if2 .taken)) refl)
-
-stated-length-requires : tie.Need-stated-length-requires
-stated-length-requires c κs = search needs
-
-length-of-requires : tie.Need-length-of-requires
-length-of-requires c κs = search needs
 
 returns-3 : tie.Need-returns-3
 unfolding firstThat refusalFrom
@@ -56,12 +41,12 @@ pub refusal-spec : {M : Type 1} → statement M
 refusal-spec =
     tie.close
     (tie.spec
-    cut-short-requires
+    (λ c κs. search needs)
     returns
-    at-requires
-    known-requires
+    (λ c κs. search needs)
+    (λ c κs. search needs)
     returns-2
-    stated-length-requires
-    length-of-requires
+    (λ c κs. search needs)
+    (λ c κs. search needs)
     returns-3
     returns-4)

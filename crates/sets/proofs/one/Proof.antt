@@ -7,15 +7,9 @@ use Rattle.sets.specs.Sets.{only}
 use Rattle.sets.proofs.one.Statement.{statement}
 use Rattle.sets.proofs.one.Tie as tie
 
-cast-result : tie.Need-cast-result
-cast-result c = search needs
-
-shl-result : tie.Need-shl-result
-shl-result c = search needs
-
 returns : tie.Need-returns
 unfolding only
 returns c = simp (one-mul, mod-eq-of-lt (pow-lt {i = c .args .i % 64} {j = 64} (omega arith)))
 
 pub one-spec : {M : Type 1} → statement M
-one-spec = tie.close (tie.spec cast-result shl-result returns)
+one-spec = tie.close (tie.spec (λ c. search needs) (λ c. search needs) returns)

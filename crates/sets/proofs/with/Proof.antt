@@ -3,12 +3,9 @@ use Rattle.sets.specs.Sets.{_∪_}
 use Rattle.sets.proofs.with.Statement.{statement}
 use Rattle.sets.proofs.with.Tie as tie
 
-one-requires : tie.Need-one-requires
-one-requires c κs = search needs
-
 returns : tie.Need-returns
 unfolding _∪_
 returns c = rw (c .one .ensures)
 
 pub with-spec : {M : Type 1} → statement M
-with-spec = tie.close (tie.spec one-requires returns)
+with-spec = tie.close (tie.spec (λ c κs. search needs) returns)

@@ -5,12 +5,9 @@ use Rattle.transpose.proofs.Words.{even-word}
 use Rattle.transpose.proofs.low.Statement.{statement}
 use Rattle.transpose.proofs.low.Tie as tie
 
-shl-result : tie.Need-shl-result
-shl-result c = search needs
-
 returns : tie.Need-returns
 unfolding _∪_ _∩_
 returns c = even-word _ _ _ (c .pre .1) (c .fits .m .fits) (c .fits .n .fits) _ _
 
 pub low-spec : {M : Type 1} → statement M
-low-spec = tie.close (tie.spec shl-result returns)
+low-spec = tie.close (tie.spec (λ c. search needs) returns)

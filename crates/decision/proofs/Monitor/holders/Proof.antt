@@ -4,12 +4,6 @@ use borrow.Author.Needs.{needs}
 use Rattle.decision.proofs.Monitor.holders.Statement.{statement}
 use Rattle.decision.proofs.Monitor.holders.Tie as tie
 
-holders-in-requires : tie.Need-holders-in-requires
-holders-in-requires c κs = search needs
-
-same-length : tie.Need-same-length
-same-length c = search needs
-
 returns : tie.Need-returns
 unfolding view
 returns c =
@@ -17,4 +11,4 @@ returns c =
     c2 .holders-in .ensures _ _ _
 
 pub holders-spec : {M : Type 1} → statement M
-holders-spec = tie.close (tie.spec holders-in-requires same-length returns)
+holders-spec = tie.close (tie.spec (λ c κs. search needs) (λ c. search needs) returns)

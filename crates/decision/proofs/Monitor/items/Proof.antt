@@ -4,12 +4,9 @@ use borrow.Author.Needs.{needs}
 use Rattle.decision.proofs.Monitor.items.Statement.{statement}
 use Rattle.decision.proofs.Monitor.items.Tie as tie
 
-items-in-requires : tie.Need-items-in-requires
-items-in-requires c κs = search needs
-
 returns : tie.Need-returns
 unfolding view
 returns c = c .items-in .ensures _ _ _
 
 pub items-spec : {M : Type 1} → statement M
-items-spec = tie.close (tie.spec items-in-requires returns)
+items-spec = tie.close (tie.spec (λ c κs. search needs) returns)

@@ -10,39 +10,6 @@ use borrow.Author.Needs.{needs}
 use Rattle.decision.proofs.inplace.answer_in.Statement.{statement}
 use Rattle.decision.proofs.inplace.answer_in.Tie as tie
 
-read-requires : tie.Need-read-requires
-read-requires c κs = search needs
-
-enum-known-record : tie.Need-enum-known-record
-enum-known-record c = search needs
-
-enum-known-record-2 : tie.Need-enum-known-record-2
-enum-known-record-2 c = search needs
-
-call-in-requires : tie.Need-call-in-requires
-call-in-requires c κs = search needs
-
-enum-known-record-3 : tie.Need-enum-known-record-3
-enum-known-record-3 c = search needs
-
-load-in-requires : tie.Need-load-in-requires
-load-in-requires c κs = search needs
-
-enum-known-record-4 : tie.Need-enum-known-record-4
-enum-known-record-4 c = search needs
-
-cast-set : tie.Need-cast-set
-cast-set c = search needs
-
-load-in-requires-2 : tie.Need-load-in-requires-2
-load-in-requires-2 c κs = search needs
-
-enum-known-record-5 : tie.Need-enum-known-record-5
-enum-known-record-5 c = search needs
-
-load-in-requires-3 : tie.Need-load-in-requires-3
-load-in-requires-3 c κs = search needs
-
 returns : tie.Need-returns
 unfolding readingOf testsOf firstThat
 returns c =
@@ -81,17 +48,17 @@ pub answer-in-spec : {M : Type 1} → statement M
 answer-in-spec =
     tie.close
     (tie.spec
-    read-requires
-    enum-known-record
-    enum-known-record-2
-    call-in-requires
-    enum-known-record-3
-    load-in-requires
-    enum-known-record-4
-    cast-set
-    load-in-requires-2
-    enum-known-record-5
-    load-in-requires-3
+    (λ c κs. search needs)
+    (λ c. search needs)
+    (λ c. search needs)
+    (λ c κs. search needs)
+    (λ c. search needs)
+    (λ c κs. search needs)
+    (λ c. search needs)
+    (λ c. search needs)
+    (λ c κs. search needs)
+    (λ c. search needs)
+    (λ c κs. search needs)
     returns
     returns-2
     returns-3

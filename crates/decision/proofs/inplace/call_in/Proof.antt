@@ -20,12 +20,6 @@ long c = search needs
 named : (c : tie.After-sizes) → length (c .before .before .before .before .before .args .names .now) ≡ 128
 named c = search needs
 
-sizes-requires : tie.Need-sizes-requires
-sizes-requires c κs = search needs
-
-refusal-requires : tie.Need-refusal-requires
-refusal-requires c κs = search needs
-
 returns : tie.Need-returns
 returns c =
     let c1 = c .before in
@@ -36,12 +30,6 @@ plan-of-requires c κs =
     let c3 = c .before .before .before in
     let c4 = c3 .before in
     passes _ _ _ _ _ (c4 .refusal .ensures) (c3 .if1 .left)
-
-judge-requires : tie.Need-judge-requires
-judge-requires c κs = search needs
-
-count-requires : tie.Need-count-requires
-count-requires c κs = search needs
 
 make-requires : tie.Need-make-requires
 make-requires c κs =
@@ -89,12 +77,12 @@ pub call-in-spec : {M : Type 1} → statement M
 call-in-spec =
     tie.close
     (tie.spec
-    sizes-requires
-    refusal-requires
+    (λ c κs. search needs)
+    (λ c κs. search needs)
     returns
     plan-of-requires
-    judge-requires
-    count-requires
+    (λ c κs. search needs)
+    (λ c κs. search needs)
     make-requires
     returns-2
     stop-in-requires

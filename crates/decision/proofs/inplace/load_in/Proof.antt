@@ -7,16 +7,10 @@ use borrow.Author.Needs.{needs}
 use Rattle.decision.proofs.inplace.load_in.Statement.{statement}
 use Rattle.decision.proofs.inplace.load_in.Tie as tie
 
-unfit-requires : tie.Need-unfit-requires
-unfit-requires c κs = search needs
-
 returns : tie.Need-returns
 returns c =
     let c1 = c .before in
     λ d n. rule-unfit _ _ _ (c1 .unfit .ensures) (c .if1 .taken)
-
-count-requires : tie.Need-count-requires
-count-requires c κs = search needs
 
 returns-2 : tie.Need-returns-2
 returns-2 c =
@@ -24,9 +18,6 @@ returns-2 c =
     let c3 = c1 .before .before in
     let c4 = c3 .before in
     λ d n. rule-full _ _ _ (c4 .unfit .ensures) (c3 .if1 .left) _ (c1 .count .ensures) (c .if2 .taken)
-
-breaks-now-requires : tie.Need-breaks-now-requires
-breaks-now-requires c κs = search needs
 
 returns-3 : tie.Need-returns-3
 returns-3 c =
@@ -61,11 +52,11 @@ pub load-in-spec : {M : Type 1} → statement M
 load-in-spec =
     tie.close
     (tie.spec
-    unfit-requires
+    (λ c κs. search needs)
     returns
-    count-requires
+    (λ c κs. search needs)
     returns-2
-    breaks-now-requires
+    (λ c κs. search needs)
     returns-3
     store-requires
     returns-4)

@@ -16,9 +16,6 @@ Inv-loop words₀ descriptors₀ names₀ sets₀ fields₀ log codes₀ at₀ n
 abbrev μ-loop : tie.MeasureT-loop
 μ-loop words₀ descriptors₀ names₀ sets₀ fields₀ log codes₀ at₀ n₀ words descriptors names sets fields codes at n = length log - at
 
-records-in-requires : tie.Need-records-in-requires Inv-loop μ-loop
-records-in-requires c κs = search needs
-
 returns : tie.Need-returns Inv-loop μ-loop
 returns c =
     let c1 = c .before in
@@ -28,9 +25,6 @@ loop-holds : tie.Need-loop-holds Inv-loop μ-loop
 loop-holds c =
     let c1 = c .before in
     (run-start _ _ _ (let z = c .if1 .left in rw (c1 .records-in .ensures) at z), search needs)
-
-end-after-requires : tie.Need-end-after-requires Inv-loop μ-loop
-end-after-requires c κs = search needs
 
 sub-answer-in : tie.Need-sub-answer-in Inv-loop μ-loop
 sub-answer-in c =
@@ -52,12 +46,6 @@ part-answer-in-end c =
     let c6 = c5 .before in
     let c7 = c6 .before in
     end-within (c7 .loop .inv .0 .counted) (c6 .loop-test .taken) _ (c5 .end-after .ensures)
-
-answer-in-requires : tie.Need-answer-in-requires Inv-loop μ-loop
-answer-in-requires c κs = search needs
-
-code-requires : tie.Need-code-requires Inv-loop μ-loop
-code-requires c κs = search needs
 
 mul-codes : tie.Need-mul-codes Inv-loop μ-loop
 mul-codes c =
@@ -95,9 +83,6 @@ loop-again c =
     let c10 = c9 .before in
     (run-more (c10 .loop .inv .0) (c9 .loop-test .taken) _ (c8 .end-after .ensures) _ (c1 .answer-in .ensures) _ (c .code .ensures), c10 .loop .inv .1)
 
-same-length : tie.Need-same-length Inv-loop μ-loop
-same-length c = search needs
-
 returns-2 : tie.Need-returns-2 Inv-loop μ-loop
 returns-2 c =
     let c1 = c .before in
@@ -109,19 +94,19 @@ run-in-spec =
     (tie.spec
     Inv-loop
     μ-loop
-    records-in-requires
+    (λ c κs. search needs)
     returns
     loop-holds
-    end-after-requires
+    (λ c κs. search needs)
     sub-answer-in
     part-answer-in-start
     part-answer-in-end
-    answer-in-requires
-    code-requires
+    (λ c κs. search needs)
+    (λ c κs. search needs)
     mul-codes
     slice-write-codes
     add-n
     loop-less
     loop-again
-    same-length
+    (λ c. search needs)
     returns-2)

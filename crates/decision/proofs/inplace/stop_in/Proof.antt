@@ -16,9 +16,6 @@ use Rattle.decision.proofs.inplace.stop_in.Tie as tie
 long : (c : tie.After-sizes) → length (c .before .before .before .before .args .words .now) ≡ 97
 long c = search needs
 
-sizes-requires : tie.Need-sizes-requires
-sizes-requires c κs = search needs
-
 action-requires : tie.Need-action-requires
 action-requires c κs =
     let c4 = c .before .before .before .before in
@@ -36,9 +33,6 @@ substitute-requires c κs =
     let c7 = c .before .before .before .before .before .before .before in
     c7 .pre .0
 
-in-use-requires : tie.Need-in-use-requires
-in-use-requires c κs = search needs
-
 returns-2 : tie.Need-returns-2
 returns-2 c =
     let c1 = c .before in
@@ -51,21 +45,6 @@ add-own : tie.Need-add-own
 add-own c =
     let c12 = c .before .before .before .before .before .before .before .before .before .before .before .before in
     omega (arith, process-lt (c12 .pre .1))
-
-items-requires : tie.Need-items-requires
-items-requires c κs = search needs
-
-reach-requires : tie.Need-reach-requires
-reach-requires c κs = search needs
-
-giving-requires : tie.Need-giving-requires
-giving-requires c κs = search needs
-
-judge-requires : tie.Need-judge-requires
-judge-requires c κs = search needs
-
-count-requires : tie.Need-count-requires
-count-requires c κs = search needs
 
 returns-3 : tie.Need-returns-3
 returns-3 c =
@@ -83,9 +62,6 @@ returns-3 c =
     let c21 = c17 .before .before .before .before in
     let a = c21 .args in
     λ x e. stop-broken (monitor (a .words .now) (a .descriptors .now) (a .names .now) (a .sets .now) (a .fields .now)) (a .q) x e (a .k) _ (c13 .substitute .ensures) _ (c11 .in-use .ensures) _ (c16 .action .ensures) (c14 .if1 .left) (c10 .if2 .left) (long c17) _ (c7 .items .ensures) _ (c5 .reach .ensures (a .descriptors .now) (a .names .now)) _ (c4 .giving .ensures) _ (c2 .judge .ensures) (λ d. c .if3 .taken (d ∙ sym (c1 .count .ensures)))
-
-make-items-requires : tie.Need-make-items-requires
-make-items-requires c κs = search needs
 
 returns-4 : tie.Need-returns-4
 returns-4 c =
@@ -109,18 +85,18 @@ pub stop-in-spec : {M : Type 1} → statement M
 stop-in-spec =
     tie.close
     (tie.spec
-    sizes-requires
+    (λ c κs. search needs)
     action-requires
     returns
     substitute-requires
-    in-use-requires
+    (λ c κs. search needs)
     returns-2
     add-own
-    items-requires
-    reach-requires
-    giving-requires
-    judge-requires
-    count-requires
+    (λ c κs. search needs)
+    (λ c κs. search needs)
+    (λ c κs. search needs)
+    (λ c κs. search needs)
+    (λ c κs. search needs)
     returns-3
-    make-items-requires
+    (λ c κs. search needs)
     returns-4)

@@ -16,12 +16,6 @@ abbrev μ-loop : tie.MeasureT-loop
 loop-holds : tie.Need-loop-holds Inv-loop μ-loop
 loop-holds c = count-start _
 
-end-after-requires : tie.Need-end-after-requires Inv-loop μ-loop
-end-after-requires c κs = search needs
-
-add-n : tie.Need-add-n Inv-loop μ-loop
-add-n c = search needs
-
 loop-less : tie.Need-loop-less Inv-loop μ-loop
 loop-less c = omega (arith, end-past (c .before .before .loop .inv) (c .before .loop-test .taken) _ (c .end-after .ensures), end-within (c .before .before .loop .inv) (c .before .loop-test .taken) _ (c .end-after .ensures))
 
@@ -34,4 +28,4 @@ returns c = count-end (c .before .loop .inv) (c .loop-test .left)
 pub records-in-spec : {M : Type 1} → statement M
 records-in-spec =
     tie.close
-    (tie.spec Inv-loop μ-loop loop-holds end-after-requires add-n loop-less loop-again returns)
+    (tie.spec Inv-loop μ-loop loop-holds (λ c κs. search needs) (λ c. search needs) loop-less loop-again returns)

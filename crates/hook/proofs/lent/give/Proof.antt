@@ -6,12 +6,6 @@ use borrow.Author.Needs.{needs}
 use Rattle.hook.proofs.lent.give.Statement.{statement}
 use Rattle.hook.proofs.lent.give.Tie as tie
 
-enum-known-reply : tie.Need-enum-known-reply
-enum-known-reply c = search needs
-
-enum-known-reply-2 : tie.Need-enum-known-reply-2
-enum-known-reply-2 c = search needs
-
 returns : tie.Need-returns
 unfolding Given replyOf
 returns c = rw (c .before .reply .given .1) (refl, refl)
@@ -21,4 +15,4 @@ unfolding Given replyOf
 returns-2 c = rw (c .before .reply2 .given .1) (refl, refl)
 
 pub give-spec : {M : Type 1} → statement M
-give-spec = tie.close (tie.spec enum-known-reply enum-known-reply-2 returns returns-2)
+give-spec = tie.close (tie.spec (λ c. search needs) (λ c. search needs) returns returns-2)

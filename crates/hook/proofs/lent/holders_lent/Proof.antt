@@ -6,15 +6,6 @@ use borrow.Author.Needs.{needs}
 use Rattle.hook.proofs.lent.holders_lent.Statement.{statement}
 use Rattle.hook.proofs.lent.holders_lent.Tie as tie
 
-holders-in-requires : tie.Need-holders-in-requires
-holders-in-requires c κs = search needs
-
-give-requires : tie.Need-give-requires
-give-requires c κs = search needs
-
-same-length : tie.Need-same-length
-same-length c = search needs
-
 returns : tie.Need-returns
 unfolding view
 returns c =
@@ -25,4 +16,4 @@ returns c =
     record { given = given-by _ _ (h .answer) _ _ _ (c .give .ensures); slice = h .slice }
 
 pub holders-lent-spec : {M : Type 1} → statement M
-holders-lent-spec = tie.close (tie.spec holders-in-requires give-requires same-length returns)
+holders-lent-spec = tie.close (tie.spec (λ c κs. search needs) (λ c κs. search needs) (λ c. search needs) returns)

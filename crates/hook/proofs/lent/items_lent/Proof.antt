@@ -6,12 +6,6 @@ use borrow.Author.Needs.{needs}
 use Rattle.hook.proofs.lent.items_lent.Statement.{statement}
 use Rattle.hook.proofs.lent.items_lent.Tie as tie
 
-items-in-requires : tie.Need-items-in-requires
-items-in-requires c κs = search needs
-
-give-requires : tie.Need-give-requires
-give-requires c κs = search needs
-
 returns : tie.Need-returns
 unfolding view
 returns c =
@@ -21,4 +15,4 @@ returns c =
     given-by _ _ (c2 .items-in .ensures (a .descriptors .now) (a .names .now) (rulesOf (a .sets .now) (a .fields .now))) _ _ _ (c .give .ensures)
 
 pub items-lent-spec : {M : Type 1} → statement M
-items-lent-spec = tie.close (tie.spec items-in-requires give-requires returns)
+items-lent-spec = tie.close (tie.spec (λ c κs. search needs) (λ c κs. search needs) returns)

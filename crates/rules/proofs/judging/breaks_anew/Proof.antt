@@ -10,21 +10,12 @@ use borrow.Author.Needs.{needs}
 use Rattle.rules.proofs.judging.breaks_anew.Statement.{statement}
 use Rattle.rules.proofs.judging.breaks_anew.Tie as tie
 
-touches-requires : tie.Need-touches-requires
-touches-requires c κs = search needs
-
 returns : tie.Need-returns
 unfolding _∪_
 returns c = sym (untouched _ _ _ (sym (c .before .touches .ensures) ∙ not-true _ (c .if1 .taken)))
 
-joins-requires : tie.Need-joins-requires
-joins-requires c κs = search needs
-
 returns-2 : tie.Need-returns-2
 returns-2 c = c .joins .ensures ∙ sym (ap (breaksAnew _ _) (separates-by _ _ _ (c .before .if2 .taken)))
-
-gets-requires : tie.Need-gets-requires
-gets-requires c κs = search needs
 
 returns-3 : tie.Need-returns-3
 unfolding meets _∩_
@@ -37,4 +28,4 @@ returns-4 c = confine-anew _ _ _ _ _ _ (c .before .gets .ensures) (c .before .be
 pub breaks-anew-spec : {M : Type 1} → statement M
 breaks-anew-spec =
     tie.close
-    (tie.spec touches-requires returns joins-requires returns-2 gets-requires returns-3 returns-4)
+    (tie.spec (λ c κs. search needs) returns (λ c κs. search needs) returns-2 (λ c κs. search needs) returns-3 returns-4)

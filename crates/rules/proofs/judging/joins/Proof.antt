@@ -5,21 +5,9 @@ use borrow.Author.Needs.{needs}
 use Rattle.rules.proofs.judging.joins.Statement.{statement}
 use Rattle.rules.proofs.judging.joins.Tie as tie
 
-gets-requires : tie.Need-gets-requires
-gets-requires c κs = search needs
-
-gets-requires-2 : tie.Need-gets-requires-2
-gets-requires-2 c κs = search needs
-
 returns : tie.Need-returns
 unfolding _∩_
 returns c = separate-both _ _ _ _ _ _ (c .before .before .gets .ensures) (c .before .gets2 .ensures) (c .if1 .taken)
-
-some-keeps-requires : tie.Need-some-keeps-requires
-some-keeps-requires c κs = search needs
-
-some-keeps-requires-2 : tie.Need-some-keeps-requires-2
-some-keeps-requires-2 c κs = search needs
 
 returns-2 : tie.Need-returns-2
 unfolding _∩_
@@ -31,9 +19,9 @@ pub joins-spec : {M : Type 1} → statement M
 joins-spec =
     tie.close
     (tie.spec
-    gets-requires
-    gets-requires-2
+    (λ c κs. search needs)
+    (λ c κs. search needs)
     returns
-    some-keeps-requires
-    some-keeps-requires-2
+    (λ c κs. search needs)
+    (λ c κs. search needs)
     returns-2)

@@ -20,12 +20,6 @@ Inv-loop words plan sets fields end k₀ k =
 abbrev μ-loop : tie.MeasureT-loop
 μ-loop words plan sets fields end k₀ k = end - k
 
-bounded-requires : tie.Need-bounded-requires Inv-loop μ-loop
-bounded-requires c κs = search needs
-
-count-requires : tie.Need-count-requires Inv-loop μ-loop
-count-requires c κs = search needs
-
 returns : tie.Need-returns Inv-loop μ-loop
 unfolding _∪_
 returns c =
@@ -39,33 +33,6 @@ loop-holds c =
     let e = c2 .count .ensures in
     (rw e (count-le _), e, seek-start _ _)
 
-cast-i : tie.Need-cast-i Inv-loop μ-loop
-cast-i c = search needs
-
-mul-at : tie.Need-mul-at Inv-loop μ-loop
-mul-at c = search needs
-
-add-breaks-anew : tie.Need-add-breaks-anew Inv-loop μ-loop
-add-breaks-anew c = search needs
-
-element-copy-out-breaks-anew : tie.Need-element-copy-out-breaks-anew Inv-loop μ-loop
-element-copy-out-breaks-anew c = search needs
-
-add-breaks-anew-2 : tie.Need-add-breaks-anew-2 Inv-loop μ-loop
-add-breaks-anew-2 c = search needs
-
-element-copy-out-breaks-anew-2 : tie.Need-element-copy-out-breaks-anew-2 Inv-loop μ-loop
-element-copy-out-breaks-anew-2 c = search needs
-
-mul-breaks-anew : tie.Need-mul-breaks-anew Inv-loop μ-loop
-mul-breaks-anew c = search needs
-
-element-copy-out-breaks-anew-3 : tie.Need-element-copy-out-breaks-anew-3 Inv-loop μ-loop
-element-copy-out-breaks-anew-3 c = search needs
-
-breaks-anew-requires : tie.Need-breaks-anew-requires Inv-loop μ-loop
-breaks-anew-requires c κs = search needs
-
 returns-2 : tie.Need-returns-2 Inv-loop μ-loop
 unfolding firstAnew conditionAt
 returns-2 c =
@@ -73,12 +40,6 @@ returns-2 c =
     let c6 = c1 .before .before .before .before .before in
     let c10 = c6 .before .before .before .before in
     record { small = c10 .bounded .ensures .0; small2 = c10 .bounded .ensures .1; number = seek-hit (c6 .loop .inv .2) (omega arith) (sym (c1 .breaks-anew .ensures) ∙ c .if2 .taken) }
-
-add-k : tie.Need-add-k Inv-loop μ-loop
-add-k c = search needs
-
-loop-less : tie.Need-loop-less Inv-loop μ-loop
-loop-less c = search needs
 
 loop-again : tie.Need-loop-again Inv-loop μ-loop
 unfolding conditionAt
@@ -100,21 +61,21 @@ judge-spec =
     (tie.spec
     Inv-loop
     μ-loop
-    bounded-requires
-    count-requires
+    (λ c κs. search needs)
+    (λ c κs. search needs)
     returns
     loop-holds
-    cast-i
-    mul-at
-    add-breaks-anew
-    element-copy-out-breaks-anew
-    add-breaks-anew-2
-    element-copy-out-breaks-anew-2
-    mul-breaks-anew
-    element-copy-out-breaks-anew-3
-    breaks-anew-requires
+    (λ c. search needs)
+    (λ c. search needs)
+    (λ c. search needs)
+    (λ c. search needs)
+    (λ c. search needs)
+    (λ c. search needs)
+    (λ c. search needs)
+    (λ c. search needs)
+    (λ c κs. search needs)
     returns-2
-    add-k
-    loop-less
+    (λ c. search needs)
+    (λ c. search needs)
     loop-again
     returns-3)

@@ -6,15 +6,6 @@ use borrow.Author.Needs.{needs}
 use Rattle.rules.proofs.judging.keeps.Statement.{statement}
 use Rattle.rules.proofs.judging.keeps.Tie as tie
 
-items-requires : tie.Need-items-requires
-items-requires c κs = search needs
-
-has-requires : tie.Need-has-requires
-has-requires c κs = search needs
-
-has-requires-2 : tie.Need-has-requires-2
-has-requires-2 c κs = search needs
-
 returns : tie.Need-returns
 unfolding keeps
 returns c =
@@ -23,4 +14,4 @@ returns c =
     ap₂ (λ (a b : Bool). a && not b) (rw (c2 .items .ensures) at (c1 .has .ensures)) (c .has2 .ensures)
 
 pub keeps-spec : {M : Type 1} → statement M
-keeps-spec = tie.close (tie.spec items-requires has-requires has-requires-2 returns)
+keeps-spec = tie.close (tie.spec (λ c κs. search needs) (λ c κs. search needs) (λ c κs. search needs) returns)

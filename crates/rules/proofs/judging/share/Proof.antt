@@ -6,9 +6,6 @@ use borrow.Author.Needs.{needs}
 use Rattle.rules.proofs.judging.share.Statement.{statement}
 use Rattle.rules.proofs.judging.share.Tie as tie
 
-has-requires : tie.Need-has-requires
-has-requires c κs = search needs
-
 returns : tie.Need-returns
 unfolding share
 returns c = sym (chosen-l _ _ 0 (sym (c .before .has .ensures) ∙ c .if1 .taken))
@@ -18,4 +15,4 @@ unfolding share
 returns-2 c = sym (chosen-r _ _ 0 (sym (c .before .has .ensures) ∙ c .if1 .left))
 
 pub share-spec : {M : Type 1} → statement M
-share-spec = tie.close (tie.spec has-requires returns returns-2)
+share-spec = tie.close (tie.spec (λ c κs. search needs) returns returns-2)

@@ -18,25 +18,16 @@ abbrev μ-loop : tie.MeasureT-loop
 loop-holds : tie.Need-loop-holds Inv-loop μ-loop
 loop-holds c = working-start _ _ (c .fits .set .fits)
 
-lowest-requires : tie.Need-lowest-requires Inv-loop μ-loop
-lowest-requires c κs = search needs
-
 cast-v : tie.Need-cast-v Inv-loop μ-loop
 cast-v c =
     let b = c .before in
     omega (arith, turn-below _ _ _ (b .before .loop .inv) (b .loop-test .taken) _ (c .lowest .ensures))
-
-keeps-requires : tie.Need-keeps-requires Inv-loop μ-loop
-keeps-requires c κs = search needs
 
 returns : tie.Need-returns Inv-loop μ-loop
 unfolding someKeeps
 returns c =
     let b = c .before .before .before in
     turn-hit _ _ _ (b .before .loop .inv) (b .loop-test .taken) _ (c .before .before .lowest .ensures) (sym (c .before .keeps .ensures) ∙ c .if1 .taken)
-
-without-requires : tie.Need-without-requires Inv-loop μ-loop
-without-requires c κs = search needs
 
 loop-less : tie.Need-loop-less Inv-loop μ-loop
 loop-less c =
@@ -59,11 +50,11 @@ some-keeps-spec =
     Inv-loop
     μ-loop
     loop-holds
-    lowest-requires
+    (λ c κs. search needs)
     cast-v
-    keeps-requires
+    (λ c κs. search needs)
     returns
-    without-requires
+    (λ c κs. search needs)
     loop-less
     loop-again
     returns-2)

@@ -5,14 +5,8 @@ use borrow.Author.Needs.{needs}
 use Rattle.rules.proofs.judging.touches.Statement.{statement}
 use Rattle.rules.proofs.judging.touches.Tie as tie
 
-has-requires : tie.Need-has-requires
-has-requires c κs = search needs
-
 returns : tie.Need-returns
 returns c = touches-first _ _ _ _ (sym (c .before .has .ensures) ∙ c .if1 .taken)
-
-has-requires-2 : tie.Need-has-requires-2
-has-requires-2 c κs = search needs
 
 returns-2 : tie.Need-returns-2
 returns-2 c =
@@ -25,4 +19,4 @@ returns-3 c =
     touches-none _ _ _ _ (sym (b .before .has .ensures) ∙ b .if1 .left) (c .if2 .left)
 
 pub touches-spec : {M : Type 1} → statement M
-touches-spec = tie.close (tie.spec has-requires returns has-requires-2 returns-2 returns-3)
+touches-spec = tie.close (tie.spec (λ c κs. search needs) returns (λ c κs. search needs) returns-2 returns-3)

@@ -23,12 +23,6 @@ abbrev μ-loop : tie.MeasureT-loop
 loop-holds : tie.Need-loop-holds Inv-loop μ-loop
 loop-holds c = (search needs, below-none _)
 
-items-requires : tie.Need-items-requires Inv-loop μ-loop
-items-requires c κs = search needs
-
-breaks-with-requires : tie.Need-breaks-with-requires Inv-loop μ-loop
-breaks-with-requires c κs = search needs
-
 returns : tie.Need-returns Inv-loop μ-loop
 unfolding brokenIn
 returns c =
@@ -36,12 +30,6 @@ returns c =
     let c2 = c1 .before in
     let c3 = c2 .before in
     sym (some-of 64 _ _ (c3 .loop-test .taken) (rw (c2 .items .ensures) at (sym (c1 .breaks-with .ensures) ∙ c .if1 .taken)))
-
-add-c : tie.Need-add-c Inv-loop μ-loop
-add-c c = search needs
-
-loop-less : tie.Need-loop-less Inv-loop μ-loop
-loop-less c = search needs
 
 loop-again : tie.Need-loop-again Inv-loop μ-loop
 loop-again c =
@@ -61,10 +49,10 @@ breaks-now-spec =
     Inv-loop
     μ-loop
     loop-holds
-    items-requires
-    breaks-with-requires
+    (λ c κs. search needs)
+    (λ c κs. search needs)
     returns
-    add-c
-    loop-less
+    (λ c. search needs)
+    (λ c. search needs)
     loop-again
     returns-2)

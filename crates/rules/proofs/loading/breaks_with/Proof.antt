@@ -5,23 +5,11 @@ use borrow.Author.Needs.{needs}
 use Rattle.rules.proofs.loading.breaks_with.Statement.{statement}
 use Rattle.rules.proofs.loading.breaks_with.Tie as tie
 
-cast-has : tie.Need-cast-has
-cast-has c = search needs
-
-has-requires : tie.Need-has-requires
-has-requires c κs = search needs
-
-has-requires-2 : tie.Need-has-requires-2
-has-requires-2 c κs = search needs
-
 returns : tie.Need-returns
 unfolding breaksWith
 returns c =
     let b = c .before .before .before in
     rw (separates-by _ _ _ (c .before .if1 .taken), b .has .ensures, c .has2 .ensures)
-
-has-requires-3 : tie.Need-has-requires-3
-has-requires-3 c κs = search needs
 
 returns-2 : tie.Need-returns-2
 unfolding breaksWith
@@ -38,4 +26,4 @@ returns-3 c =
 pub breaks-with-spec : {M : Type 1} → statement M
 breaks-with-spec =
     tie.close
-    (tie.spec cast-has has-requires has-requires-2 returns has-requires-3 returns-2 returns-3)
+    (tie.spec (λ c. search needs) (λ c κs. search needs) (λ c κs. search needs) returns (λ c κs. search needs) returns-2 returns-3)

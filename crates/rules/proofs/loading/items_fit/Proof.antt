@@ -6,9 +6,6 @@ use Rattle.rules.proofs.ConditionLaws.{separates-by, items-fit-by-set}
 use Rattle.rules.proofs.loading.items_fit.Statement.{statement}
 use Rattle.rules.proofs.loading.items_fit.Tie as tie
 
-cast-result : tie.Need-cast-result
-cast-result c = search needs
-
 returns : tie.Need-returns
 unfolding itemsFit
 returns c = sym (ap itemsFit (separates-by _ _ _ (c .before .before .if1 .taken)))
@@ -17,4 +14,4 @@ returns-2 : tie.Need-returns-2
 returns-2 c = items-fit-by-set _ _ _ (c .before .if1 .left)
 
 pub items-fit-spec : {M : Type 1} → statement M
-items-fit-spec = tie.close (tie.spec cast-result returns returns-2)
+items-fit-spec = tie.close (tie.spec (λ c. search needs) returns returns-2)

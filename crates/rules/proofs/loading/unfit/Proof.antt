@@ -11,20 +11,11 @@ returns : tie.Need-returns
 unfolding refusalFrom firstThat fieldTests
 returns c = rw (le-ltb _ 2 (c .if1 .taken))
 
-items-fit-requires : tie.Need-items-fit-requires
-items-fit-requires c κs = search needs
-
-substitute-fits-requires : tie.Need-substitute-fits-requires
-substitute-fits-requires c κs = search needs
-
 returns-2 : tie.Need-returns-2
 unfolding refusalFrom firstThat fieldTests
 returns-2 c =
     let b = c .before .before .before in
     rw (lt-ltb _ 2 (b .if1 .left), sym (c .before .before .items-fit .ensures), sym (c .before .substitute-fits .ensures), c .if2 .taken)
-
-same-items-requires : tie.Need-same-items-requires
-same-items-requires c κs = search needs
 
 returns-3 : tie.Need-returns-3
 unfolding refusalFrom firstThat fieldTests
@@ -43,9 +34,9 @@ unfit-spec =
     tie.close
     (tie.spec
     returns
-    items-fit-requires
-    substitute-fits-requires
+    (λ c κs. search needs)
+    (λ c κs. search needs)
     returns-2
-    same-items-requires
+    (λ c κs. search needs)
     returns-3
     returns-4)

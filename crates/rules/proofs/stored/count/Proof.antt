@@ -5,9 +5,6 @@ use borrow.Author.Needs.{needs}
 use Rattle.rules.proofs.stored.count.Statement.{statement}
 use Rattle.rules.proofs.stored.count.Tie as tie
 
-element-copy-out-n : tie.Need-element-copy-out-n
-element-copy-out-n c = search needs
-
 returns : tie.Need-returns
 returns c = sym (count-all _ (c .if1 .taken))
 
@@ -15,4 +12,4 @@ returns-2 : tie.Need-returns-2
 returns-2 c = sym (count-full _ (c .if1 .left))
 
 pub count-spec : {M : Type 1} → statement M
-count-spec = tie.close (tie.spec element-copy-out-n returns returns-2)
+count-spec = tie.close (tie.spec (λ c. search needs) returns returns-2)

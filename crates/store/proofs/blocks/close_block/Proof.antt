@@ -27,29 +27,14 @@ module _ (c : tie.After-entries Inv-loop μ-loop) where
   long : length list ≡ 512
   long = search needs
 
-cast-at : tie.Need-cast-at Inv-loop μ-loop
-cast-at c = search needs
-
-mul-at : tie.Need-mul-at Inv-loop μ-loop
-mul-at c = search needs
-
 loop-holds : tie.Need-loop-holds Inv-loop μ-loop
 loop-holds c = (search needs, laid-none _ _ _)
-
-add-entries : tie.Need-add-entries Inv-loop μ-loop
-add-entries c = search needs
 
 slice-write-entries : tie.Need-slice-write-entries Inv-loop μ-loop
 slice-write-entries c =
     let b = c .before .before .before in
     let e : length (c .before .loop .entries) ≡ length (list b) = ap length (c .before .loop .inv .1) ∙ laid-long (list b) (start b) (replicate 32 closed) (c .before .loop .d) (omega (arith, long b)) (omega arith) in
     omega (arith, long b)
-
-add-d : tie.Need-add-d Inv-loop μ-loop
-add-d c = search needs
-
-loop-less : tie.Need-loop-less Inv-loop μ-loop
-loop-less c = search needs
 
 loop-again : tie.Need-loop-again Inv-loop μ-loop
 loop-again c =
@@ -70,12 +55,12 @@ close-block-spec =
     (tie.spec
     Inv-loop
     μ-loop
-    cast-at
-    mul-at
+    (λ c. search needs)
+    (λ c. search needs)
     loop-holds
-    add-entries
+    (λ c. search needs)
     slice-write-entries
-    add-d
-    loop-less
+    (λ c. search needs)
+    (λ c. search needs)
     loop-again
     returns)

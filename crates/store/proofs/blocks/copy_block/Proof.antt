@@ -36,23 +36,8 @@ module _ (c : tie.After-entries Inv-loop μ-loop) where
   same : (d : ℕ) → d ≤ 32 → length (laid list start (part list source) d) ≡ 512
   same d h = laid-long list start (part list source) d (omega (arith, long)) (omega (arith, part-whole)) ∙ long
 
-cast-source : tie.Need-cast-source Inv-loop μ-loop
-cast-source c = search needs
-
-mul-source : tie.Need-mul-source Inv-loop μ-loop
-mul-source c = search needs
-
-cast-at : tie.Need-cast-at Inv-loop μ-loop
-cast-at c = search needs
-
-mul-at : tie.Need-mul-at Inv-loop μ-loop
-mul-at c = search needs
-
 loop-holds : tie.Need-loop-holds Inv-loop μ-loop
 loop-holds c = (search needs, laid-none _ _ _)
-
-add-e : tie.Need-add-e Inv-loop μ-loop
-add-e c = search needs
 
 slice-read-e : tie.Need-slice-read-e Inv-loop μ-loop
 slice-read-e c =
@@ -60,20 +45,11 @@ slice-read-e c =
     let e : length (c .before .before .loop .entries) ≡ 512 = ap length (c .before .before .loop .inv .1) ∙ same b (c .before .before .loop .d) (omega arith) in
     omega arith
 
-add-entries : tie.Need-add-entries Inv-loop μ-loop
-add-entries c = search needs
-
 slice-write-entries : tie.Need-slice-write-entries Inv-loop μ-loop
 slice-write-entries c =
     let b = c .before .before .before .before .before in
     let e : length (c .before .before .loop .entries) ≡ 512 = ap length (c .before .before .loop .inv .1) ∙ same b (c .before .before .loop .d) (omega arith) in
     omega arith
-
-add-d : tie.Need-add-d Inv-loop μ-loop
-add-d c = search needs
-
-loop-less : tie.Need-loop-less Inv-loop μ-loop
-loop-less c = search needs
 
 loop-again : tie.Need-loop-again Inv-loop μ-loop
 loop-again c =
@@ -101,16 +77,16 @@ copy-block-spec =
     (tie.spec
     Inv-loop
     μ-loop
-    cast-source
-    mul-source
-    cast-at
-    mul-at
+    (λ c. search needs)
+    (λ c. search needs)
+    (λ c. search needs)
+    (λ c. search needs)
     loop-holds
-    add-e
+    (λ c. search needs)
     slice-read-e
-    add-entries
+    (λ c. search needs)
     slice-write-entries
-    add-d
-    loop-less
+    (λ c. search needs)
+    (λ c. search needs)
     loop-again
     returns)

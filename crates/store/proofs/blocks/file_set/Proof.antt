@@ -8,9 +8,6 @@ use borrow.Author.Needs.{needs}
 use Rattle.store.proofs.blocks.file_set.Statement.{statement}
 use Rattle.store.proofs.blocks.file_set.Tie as tie
 
-with-requires : tie.Need-with-requires
-with-requires c κs = search needs
-
 returns : tie.Need-returns
 unfolding _∪_ isFile
 returns c = c .with .ensures ∙ ap only (mod-eq-of-lt (file-range _ (c .before .if1 .taken) .1)) ∙ sym (fileSet-file _ (c .before .if1 .taken))
@@ -20,4 +17,4 @@ unfolding isFile
 returns-2 c = sym (fileSet-none _ (c .if1 .left))
 
 pub file-set-spec : {M : Type 1} → statement M
-file-set-spec = tie.close (tie.spec with-requires returns returns-2)
+file-set-spec = tie.close (tie.spec (λ c κs. search needs) returns returns-2)

@@ -20,18 +20,6 @@ loop-holds : tie.Need-loop-holds Inv-loop μ-loop
 unfolding filesIn
 loop-holds c = (search needs, refl)
 
-shared-slice-read-file-set : tie.Need-shared-slice-read-file-set Inv-loop μ-loop
-shared-slice-read-file-set c = search needs
-
-file-set-requires : tie.Need-file-set-requires Inv-loop μ-loop
-file-set-requires c κs = search needs
-
-add-i : tie.Need-add-i Inv-loop μ-loop
-add-i c = search needs
-
-loop-less : tie.Need-loop-less Inv-loop μ-loop
-loop-less c = search needs
-
 loop-again : tie.Need-loop-again Inv-loop μ-loop
 unfolding _∪_
 loop-again c = (search needs, filesIn-next _ _ _ _ (c .before .before .loop-test .taken) (c .before .before .before .loop .inv .1) (c .file-set .ensures))
@@ -46,9 +34,9 @@ files-in-spec =
     Inv-loop
     μ-loop
     loop-holds
-    shared-slice-read-file-set
-    file-set-requires
-    add-i
-    loop-less
+    (λ c. search needs)
+    (λ c κs. search needs)
+    (λ c. search needs)
+    (λ c. search needs)
     loop-again
     returns)

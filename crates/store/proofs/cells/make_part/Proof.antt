@@ -4,21 +4,6 @@ use borrow.Author.Needs.{needs}
 use Rattle.store.proofs.cells.make_part.Statement.{statement}
 use Rattle.store.proofs.cells.make_part.Tie as tie
 
-sub-make : tie.Need-sub-make
-sub-make c = search needs
-
-part-make-start : tie.Need-part-make-start
-part-make-start c = search needs
-
-part-make-end : tie.Need-part-make-end
-part-make-end c = search needs
-
-make-requires : tie.Need-make-requires
-make-requires c κs = search needs
-
-same-length : tie.Need-same-length
-same-length c = search needs
-
 returns : tie.Need-returns
 returns c =
     let c2 = c .before .before in
@@ -28,4 +13,4 @@ returns c =
 pub make-part-spec : {M : Type 1} → statement M
 make-part-spec =
     tie.close
-    (tie.spec sub-make part-make-start part-make-end make-requires same-length returns)
+    (tie.spec (λ c. search needs) (λ c. search needs) (λ c. search needs) (λ c κs. search needs) (λ c. search needs) returns)

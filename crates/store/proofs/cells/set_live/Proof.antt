@@ -5,14 +5,8 @@ use borrow.Author.Needs.{needs}
 use Rattle.store.proofs.cells.set_live.Statement.{statement}
 use Rattle.store.proofs.cells.set_live.Tie as tie
 
-size-requires : tie.Need-size-requires
-size-requires c κs = search needs
-
-element-write-words : tie.Need-element-write-words
-element-write-words c = search needs
-
 returns : tie.Need-returns
 returns c = λ d n. live-set _ d n _ (search needs)
 
 pub set-live-spec : {M : Type 1} → statement M
-set-live-spec = tie.close (tie.spec size-requires element-write-words returns)
+set-live-spec = tie.close (tie.spec (λ c κs. search needs) (λ c. search needs) returns)

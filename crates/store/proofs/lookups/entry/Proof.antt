@@ -6,9 +6,6 @@ use borrow.Author.Needs.{needs}
 use Rattle.store.proofs.lookups.entry.Statement.{statement}
 use Rattle.store.proofs.lookups.entry.Tie as tie
 
-shared-slice-read-result : tie.Need-shared-slice-read-result
-shared-slice-read-result c = search needs
-
 returns : tie.Need-returns
 returns c = getD-any (c .before .before .args .table .now) (c .before .before .args .i) 0 255 (c .before .if1 .taken)
 
@@ -16,4 +13,4 @@ returns-2 : tie.Need-returns-2
 returns-2 c = sym (List·getD-eq-default (c .before .args .table .now) 255 (c .if1 .left))
 
 pub entry-spec : {M : Type 1} → statement M
-entry-spec = tie.close (tie.spec shared-slice-read-result returns returns-2)
+entry-spec = tie.close (tie.spec (λ c. search needs) returns returns-2)

@@ -4,18 +4,6 @@ use borrow.Author.Needs.{needs}
 use Rattle.store.proofs.lookups.feeders.Statement.{statement}
 use Rattle.store.proofs.lookups.feeders.Tie as tie
 
-cast-result : tie.Need-cast-result
-cast-result c = search needs
-
-add-result : tie.Need-add-result
-add-result c = search needs
-
-mul-result : tie.Need-mul-result
-mul-result c = search needs
-
-element-copy-out-result : tie.Need-element-copy-out-result
-element-copy-out-result c = search needs
-
 returns : tie.Need-returns
 returns c = part-at 65 16 _ _ (search needs)
 
@@ -25,4 +13,4 @@ returns-2 c = part-past 65 16 _ _ (c .if1 .left)
 pub feeders-spec : {M : Type 1} → statement M
 feeders-spec =
     tie.close
-    (tie.spec cast-result add-result mul-result element-copy-out-result returns returns-2)
+    (tie.spec (λ c. search needs) (λ c. search needs) (λ c. search needs) (λ c. search needs) returns returns-2)

@@ -7,9 +7,6 @@ use borrow.Author.Needs.{needs}
 use Rattle.store.proofs.lookups.holds.Statement.{statement}
 use Rattle.store.proofs.lookups.holds.Tie as tie
 
-member-requires : tie.Need-member-requires
-member-requires c κs = search needs
-
 returns : tie.Need-returns
 returns c = c .member .ensures ∙ ap (has _) (mod-eq-of-lt (c .before .if1 .taken))
 
@@ -17,4 +14,4 @@ returns-2 : tie.Need-returns-2
 returns-2 c = sym (past-has _ _ (search needs) (c .if1 .left))
 
 pub holds-spec : {M : Type 1} → statement M
-holds-spec = tie.close (tie.spec member-requires returns returns-2)
+holds-spec = tie.close (tie.spec (λ c κs. search needs) returns returns-2)

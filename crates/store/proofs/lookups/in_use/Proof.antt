@@ -11,18 +11,12 @@ use Rattle.store.proofs.lookups.in_use.Tie as tie
 returns : tie.Need-returns
 returns c = sym (used-device _ _ (c .if1 .taken))
 
-is-live-requires : tie.Need-is-live-requires
-is-live-requires c κs = search needs
-
 returns-2 : tie.Need-returns-2
 unfolding view
 returns-2 c =
     let c2 = c .before .before in
     let c4 = c2 .before .before in
     c .is-live .ensures ∙ sym (used-live _ _ (c4 .if1 .left) (c2 .if2 .taken))
-
-stands-requires : tie.Need-stands-requires
-stands-requires c κs = search needs
 
 returns-3 : tie.Need-returns-3
 unfolding view
@@ -31,21 +25,12 @@ returns-3 c =
     let c3 = c1 .before .before in
     sym (used-named _ _ (c3 .if2 .left) (sym (c1 .stands .ensures) ∙ c .if3 .taken))
 
-stands-requires-2 : tie.Need-stands-requires-2
-stands-requires-2 c κs = search needs
-
 returns-4 : tie.Need-returns-4
 unfolding view
 returns-4 c =
     let c1 = c .before in
     let c6 = c1 .before .before .before .before .before in
     sym (used-described _ _ (c6 .if2 .left) (sym (c1 .stands2 .ensures) ∙ c .if4 .taken))
-
-mapped-requires : tie.Need-mapped-requires
-mapped-requires c κs = search needs
-
-holds-requires : tie.Need-holds-requires
-holds-requires c κs = search needs
 
 returns-5 : tie.Need-returns-5
 unfolding view
@@ -69,12 +54,12 @@ in-use-spec =
     tie.close
     (tie.spec
     returns
-    is-live-requires
+    (λ c κs. search needs)
     returns-2
-    stands-requires
+    (λ c κs. search needs)
     returns-3
-    stands-requires-2
+    (λ c κs. search needs)
     returns-4
-    mapped-requires
-    holds-requires
+    (λ c κs. search needs)
+    (λ c κs. search needs)
     returns-5)

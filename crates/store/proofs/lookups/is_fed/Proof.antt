@@ -7,15 +7,9 @@ use borrow.Author.Needs.{needs}
 use Rattle.store.proofs.lookups.is_fed.Statement.{statement}
 use Rattle.store.proofs.lookups.is_fed.Tie as tie
 
-fed-set-requires : tie.Need-fed-set-requires
-fed-set-requires c κs = search needs
-
-holds-requires : tie.Need-holds-requires
-holds-requires c κs = search needs
-
 returns : tie.Need-returns
 unfolding view
 returns c = λ d n. c .holds .ensures ∙ rw (c .before .fed-set .ensures) (fed-has (view _ d n .tables) _ (part-length 81 16 _ (search needs)))
 
 pub is-fed-spec : {M : Type 1} → statement M
-is-fed-spec = tie.close (tie.spec fed-set-requires holds-requires returns)
+is-fed-spec = tie.close (tie.spec (λ c κs. search needs) (λ c κs. search needs) returns)

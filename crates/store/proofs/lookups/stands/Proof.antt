@@ -20,18 +20,6 @@ loop-holds : tie.Need-loop-holds Inv-loop μ-loop
 unfolding isIn
 loop-holds c = (search needs, refl)
 
-shared-slice-read-found : tie.Need-shared-slice-read-found Inv-loop μ-loop
-shared-slice-read-found c = search needs
-
-cast-found : tie.Need-cast-found Inv-loop μ-loop
-cast-found c = search needs
-
-add-i : tie.Need-add-i Inv-loop μ-loop
-add-i c = search needs
-
-loop-less : tie.Need-loop-less Inv-loop μ-loop
-loop-less c = search needs
-
 loop-again : tie.Need-loop-again Inv-loop μ-loop
 loop-again c = (search needs, rw (c .before .before .loop .inv .1) (isIn-byte _ _ _ (c .before .loop-test .taken)))
 
@@ -39,4 +27,4 @@ returns : tie.Need-returns Inv-loop μ-loop
 returns c = rw (c .before .loop .inv .1, take-all _ _ (c .loop-test .left)) (byte-test _)
 
 pub stands-spec : {M : Type 1} → statement M
-stands-spec = tie.close (tie.spec Inv-loop μ-loop loop-holds shared-slice-read-found cast-found add-i loop-less loop-again returns)
+stands-spec = tie.close (tie.spec Inv-loop μ-loop loop-holds (λ c. search needs) (λ c. search needs) (λ c. search needs) (λ c. search needs) loop-again returns)

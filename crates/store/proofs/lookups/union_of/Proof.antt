@@ -20,18 +20,6 @@ loop-holds : tie.Need-loop-holds Inv-loop μ-loop
 unfolding unionOf
 loop-holds c = (search needs, refl)
 
-mul-x : tie.Need-mul-x Inv-loop μ-loop
-mul-x c = search needs
-
-shared-slice-read-x : tie.Need-shared-slice-read-x Inv-loop μ-loop
-shared-slice-read-x c = search needs
-
-add-i : tie.Need-add-i Inv-loop μ-loop
-add-i c = search needs
-
-loop-less : tie.Need-loop-less Inv-loop μ-loop
-loop-less c = search needs
-
 loop-again : tie.Need-loop-again Inv-loop μ-loop
 unfolding _∪_
 loop-again c = (search needs, rw (c .before .before .loop .inv .1) (sym (unionOf-more _ _ (c .before .loop-test .taken))))
@@ -40,4 +28,4 @@ returns : tie.Need-returns Inv-loop μ-loop
 returns c = c .before .loop .inv .1 ∙ ap unionOf (take-all _ _ (c .loop-test .left))
 
 pub union-of-spec : {M : Type 1} → statement M
-union-of-spec = tie.close (tie.spec Inv-loop μ-loop loop-holds mul-x shared-slice-read-x add-i loop-less loop-again returns)
+union-of-spec = tie.close (tie.spec Inv-loop μ-loop loop-holds (λ c. search needs) (λ c. search needs) (λ c. search needs) (λ c. search needs) loop-again returns)

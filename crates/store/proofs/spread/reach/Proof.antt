@@ -33,17 +33,8 @@ below c = next-lt (c .before .before .loop .inv) (c .lowest .result) (next c)
 its-row : (c : tie.After-lowest Inv-loop μ-loop) (a : ℕ) → (let w = c .before .before .before .before .before .before .before .args .words .now in getD w (a + c .lowest .result) 0 ≡ getD (part a 16 w) (c .lowest .result) 0)
 its-row c a = part-at a 16 _ (c .lowest .result) (below c)
 
-bounded-requires : tie.Need-bounded-requires Inv-loop μ-loop
-bounded-requires c κs = search needs
-
-with-requires : tie.Need-with-requires Inv-loop μ-loop
-with-requires c κs = search needs
-
 loop-holds : tie.Need-loop-holds Inv-loop μ-loop
 loop-holds c = rw (c .with .ensures) (search-none _ _ _ (omega arith))
-
-lowest-requires : tie.Need-lowest-requires Inv-loop μ-loop
-lowest-requires c κs = search needs
 
 cast-p : tie.Need-cast-p Inv-loop μ-loop
 cast-p c = omega (arith, below c)
@@ -62,12 +53,6 @@ element-copy-out-with c = omega (arith, below c)
 
 add-with-2 : tie.Need-add-with-2 Inv-loop μ-loop
 add-with-2 c = omega (arith, below (c .before))
-
-with-requires-2 : tie.Need-with-requires-2 Inv-loop μ-loop
-with-requires-2 c κs = search needs
-
-without-requires : tie.Need-without-requires Inv-loop μ-loop
-without-requires c κs = search needs
 
 loop-less : tie.Need-loop-less Inv-loop μ-loop
 loop-less c =
@@ -96,12 +81,6 @@ element-copy-out-with-2 c = omega (arith, below (c .before .before .before))
 add-with-4 : tie.Need-add-with-4 Inv-loop μ-loop
 add-with-4 c = omega (arith, below (c .before .before .before .before))
 
-with-requires-3 : tie.Need-with-requires-3 Inv-loop μ-loop
-with-requires-3 c κs = search needs
-
-without-requires-2 : tie.Need-without-requires-2 Inv-loop μ-loop
-without-requires-2 c κs = search needs
-
 loop-less-2 : tie.Need-loop-less-2 Inv-loop μ-loop
 loop-less-2 c =
     let c6 = c .before .before .before .before .before .before in
@@ -127,26 +106,26 @@ reach-spec =
     (tie.spec
     Inv-loop
     μ-loop
-    bounded-requires
-    with-requires
+    (λ c κs. search needs)
+    (λ c κs. search needs)
     loop-holds
-    lowest-requires
+    (λ c κs. search needs)
     cast-p
     cast-i
     add-with
     mul-with
     element-copy-out-with
     add-with-2
-    with-requires-2
-    without-requires
+    (λ c κs. search needs)
+    (λ c κs. search needs)
     loop-less
     loop-again
     add-with-3
     mul-with-2
     element-copy-out-with-2
     add-with-4
-    with-requires-3
-    without-requires-2
+    (λ c κs. search needs)
+    (λ c κs. search needs)
     loop-less-2
     loop-again-2
     returns)

@@ -6,9 +6,6 @@ use Rattle.tracker.proofs.Joined.{refused-call, made-done}
 use Rattle.tracker.proofs.Tracker.call.Statement.{statement}
 use Rattle.tracker.proofs.Tracker.call.Tie as tie
 
-work-requires : tie.Need-work-requires
-work-requires c κs = search needs
-
 returns : tie.Need-returns
 unfolding refusalOf
 returns c =
@@ -22,4 +19,4 @@ returns-2 c =
     record { works = made-done _ _ _ _ (c .if1 .left) (c1 .work .ensures); kept = λ n e. cc }
 
 pub call-spec : {M : Type 1} → statement M
-call-spec = tie.close (tie.spec work-requires returns returns-2)
+call-spec = tie.close (tie.spec (λ c κs. search needs) returns returns-2)

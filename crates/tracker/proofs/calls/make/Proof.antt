@@ -16,9 +16,6 @@ long c = search needs
 named : (c : tie.After-sizes) → length (c .before .before .before .before .before .args .names .now) ≡ 128
 named c = search needs
 
-sizes-requires : tie.Need-sizes-requires
-sizes-requires c κs = search needs
-
 lost-by-requires : tie.Need-lost-by-requires
 lost-by-requires c κs =
     let c8 = c .before .before .before .before .before .before .before .before in
@@ -28,12 +25,6 @@ change-tables-requires : tie.Need-change-tables-requires
 change-tables-requires c κs =
     let c12 = c .before .before .before .before .before .before .before .before .before .before .before .before in
     c12 .pre .0
-
-make-items-requires : tie.Need-make-items-requires
-make-items-requires c κs = search needs
-
-release-requires : tie.Need-release-requires
-release-requires c κs = search needs
 
 returns : tie.Need-returns
 unfolding view
@@ -55,9 +46,9 @@ pub make-spec : {M : Type 1} → statement M
 make-spec =
     tie.close
     (tie.spec
-    sizes-requires
+    (λ c κs. search needs)
     lost-by-requires
     change-tables-requires
-    make-items-requires
-    release-requires
+    (λ c κs. search needs)
+    (λ c κs. search needs)
     returns)

@@ -5,9 +5,6 @@ use borrow.Author.Needs.{needs}
 use Rattle.tracker.proofs.calls.work.Statement.{statement}
 use Rattle.tracker.proofs.calls.work.Tie as tie
 
-refusal-requires : tie.Need-refusal-requires
-refusal-requires c κs = search needs
-
 returns : tie.Need-returns
 returns c =
     let c1 = c .before in
@@ -33,4 +30,4 @@ returns-2 c =
     worked-out _ _ _ (passes _ _ (c9 .refusal .ensures) (c8 .if1 .left)) (c .make .ensures)
 
 pub work-spec : {M : Type 1} → statement M
-work-spec = tie.close (tie.spec refusal-requires returns plan-of-requires make-requires returns-2)
+work-spec = tie.close (tie.spec (λ c κs. search needs) returns plan-of-requires make-requires returns-2)

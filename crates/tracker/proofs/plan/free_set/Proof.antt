@@ -6,16 +6,10 @@ use borrow.Author.Needs.{needs}
 use Rattle.tracker.proofs.plan.free_set.Statement.{statement}
 use Rattle.tracker.proofs.plan.free_set.Tie as tie
 
-is-fed-requires : tie.Need-is-fed-requires
-is-fed-requires c κs = search needs
-
 returns : tie.Need-returns
 returns c =
     let c1 = c .before in
     λ d n. free-none _ _ _ (sym (c1 .is-fed .ensures d n) ∙ c .if1 .taken)
-
-with-requires : tie.Need-with-requires
-with-requires c κs = search needs
 
 returns-2 : tie.Need-returns-2
 unfolding _∪_
@@ -25,4 +19,4 @@ returns-2 c =
     λ d n. c .with .ensures ∙ free-one _ _ _ (sym (c2 .is-fed .ensures d n) ∙ c1 .if1 .left)
 
 pub free-set-spec : {M : Type 1} → statement M
-free-set-spec = tie.close (tie.spec is-fed-requires returns with-requires returns-2)
+free-set-spec = tie.close (tie.spec (λ c κs. search needs) returns (λ c κs. search needs) returns-2)

@@ -31,114 +31,30 @@ add-with c =
     let c1 = c .before in
     omega (arith, process-lt (c1 .pre))
 
-with-requires : tie.Need-with-requires
-with-requires c κs = search needs
-
-emptying-requires : tie.Need-emptying-requires
-emptying-requires c κs = search needs
-
-with-requires-2 : tie.Need-with-requires-2
-with-requires-2 c κs = search needs
-
-emptying-requires-2 : tie.Need-emptying-requires-2
-emptying-requires-2 c κs = search needs
-
-with-requires-3 : tie.Need-with-requires-3
-with-requires-3 c κs = search needs
-
-emptying-requires-3 : tie.Need-emptying-requires-3
-emptying-requires-3 c κs = search needs
-
-descriptor-requires : tie.Need-descriptor-requires
-descriptor-requires c κs = search needs
-
 add-own : tie.Need-add-own
 add-own c =
     let c2 = c .before .before in
     omega (arith, process-lt (c2 .pre))
-
-items-requires : tie.Need-items-requires
-items-requires c κs = search needs
-
-reach-requires : tie.Need-reach-requires
-reach-requires c κs = search needs
-
-giving-requires : tie.Need-giving-requires
-giving-requires c κs = search needs
-
-descriptor-requires-2 : tie.Need-descriptor-requires-2
-descriptor-requires-2 c κs = search needs
 
 add-own-2 : tie.Need-add-own-2
 add-own-2 c =
     let c2 = c .before .before in
     omega (arith, process-lt (c2 .pre))
 
-items-requires-2 : tie.Need-items-requires-2
-items-requires-2 c κs = search needs
-
-reach-requires-2 : tie.Need-reach-requires-2
-reach-requires-2 c κs = search needs
-
-giving-requires-2 : tie.Need-giving-requires-2
-giving-requires-2 c κs = search needs
-
-descriptor-requires-3 : tie.Need-descriptor-requires-3
-descriptor-requires-3 c κs = search needs
-
-free-set-requires : tie.Need-free-set-requires
-free-set-requires c κs = search needs
-
-emptying-requires-4 : tie.Need-emptying-requires-4
-emptying-requires-4 c κs = search needs
-
-descriptor-requires-4 : tie.Need-descriptor-requires-4
-descriptor-requires-4 c κs = search needs
-
 add-own-3 : tie.Need-add-own-3
 add-own-3 c =
     let c2 = c .before .before in
     omega (arith, process-lt (c2 .pre))
-
-items-requires-3 : tie.Need-items-requires-3
-items-requires-3 c κs = search needs
-
-reach-requires-3 : tie.Need-reach-requires-3
-reach-requires-3 c κs = search needs
-
-items-requires-4 : tie.Need-items-requires-4
-items-requires-4 c κs = search needs
-
-reach-requires-4 : tie.Need-reach-requires-4
-reach-requires-4 c κs = search needs
 
 add-with-2 : tie.Need-add-with-2
 add-with-2 c =
     let c1 = c .before in
     omega (arith, fork-other (c1 .pre) (c .match .keys8))
 
-with-requires-4 : tie.Need-with-requires-4
-with-requires-4 c κs = search needs
-
 add-own-4 : tie.Need-add-own-4
 add-own-4 c =
     let c2 = c .before .before in
     omega (arith, process-lt (c2 .pre))
-
-items-requires-5 : tie.Need-items-requires-5
-items-requires-5 c κs = search needs
-
-with-requires-5 : tie.Need-with-requires-5
-with-requires-5 c κs = search needs
-
-reach-requires-5 : tie.Need-reach-requires-5
-reach-requires-5 c κs = search needs
-
-giving-requires-3 : tie.Need-giving-requires-3
-giving-requires-3 c κs = search needs
-
-emptying-requires-5 : tie.Need-emptying-requires-5
-emptying-requires-5 c κs = search needs
 
 returns : tie.Need-returns
 unfolding view _∪_ planAt planBy planOf flowBy kinds
@@ -233,39 +149,39 @@ plan-of-spec =
     tie.close
     (tie.spec
     add-with
-    with-requires
-    emptying-requires
-    with-requires-2
-    emptying-requires-2
-    with-requires-3
-    emptying-requires-3
-    descriptor-requires
+    (λ c κs. search needs)
+    (λ c κs. search needs)
+    (λ c κs. search needs)
+    (λ c κs. search needs)
+    (λ c κs. search needs)
+    (λ c κs. search needs)
+    (λ c κs. search needs)
     add-own
-    items-requires
-    reach-requires
-    giving-requires
-    descriptor-requires-2
+    (λ c κs. search needs)
+    (λ c κs. search needs)
+    (λ c κs. search needs)
+    (λ c κs. search needs)
     add-own-2
-    items-requires-2
-    reach-requires-2
-    giving-requires-2
-    descriptor-requires-3
-    free-set-requires
-    emptying-requires-4
-    descriptor-requires-4
+    (λ c κs. search needs)
+    (λ c κs. search needs)
+    (λ c κs. search needs)
+    (λ c κs. search needs)
+    (λ c κs. search needs)
+    (λ c κs. search needs)
+    (λ c κs. search needs)
     add-own-3
-    items-requires-3
-    reach-requires-3
-    items-requires-4
-    reach-requires-4
+    (λ c κs. search needs)
+    (λ c κs. search needs)
+    (λ c κs. search needs)
+    (λ c κs. search needs)
     add-with-2
-    with-requires-4
+    (λ c κs. search needs)
     add-own-4
-    items-requires-5
-    with-requires-5
-    reach-requires-5
-    giving-requires-3
-    emptying-requires-5
+    (λ c κs. search needs)
+    (λ c κs. search needs)
+    (λ c κs. search needs)
+    (λ c κs. search needs)
+    (λ c κs. search needs)
     returns
     returns-2
     returns-3

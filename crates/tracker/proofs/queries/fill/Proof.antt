@@ -24,23 +24,14 @@ turn b =
 loop-holds : tie.Need-loop-holds Inv-loop μ-loop
 loop-holds c = partly-none (c .before .args .x) (c .before .args .out .now) (c .before .fits .x .fits)
 
-lowest-requires : tie.Need-lowest-requires Inv-loop μ-loop
-lowest-requires c κs = search needs
-
 cast-out : tie.Need-cast-out Inv-loop μ-loop
 cast-out c = omega (arith, turn c .below)
-
-mul-out : tie.Need-mul-out Inv-loop μ-loop
-mul-out c = search needs
 
 slice-write-out : tie.Need-slice-write-out Inv-loop μ-loop
 slice-write-out c = turn c .room
 
 cast-without : tie.Need-cast-without Inv-loop μ-loop
 cast-without c = omega (arith, turn c .below)
-
-without-requires : tie.Need-without-requires Inv-loop μ-loop
-without-requires c κs = search needs
 
 add-n : tie.Need-add-n Inv-loop μ-loop
 add-n c = omega (arith, turn (c .before) .room)
@@ -67,12 +58,12 @@ fill-spec =
     Inv-loop
     μ-loop
     loop-holds
-    lowest-requires
+    (λ c κs. search needs)
     cast-out
-    mul-out
+    (λ c. search needs)
     slice-write-out
     cast-without
-    without-requires
+    (λ c κs. search needs)
     add-n
     loop-less
     loop-again

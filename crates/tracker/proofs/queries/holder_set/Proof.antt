@@ -18,18 +18,6 @@ abbrev μ-loop : tie.MeasureT-loop
 loop-holds : tie.Need-loop-holds Inv-loop μ-loop
 loop-holds c = (search needs, sym (found-none (part 1 64 (c .args .words .now)) (c .args .i % 64)))
 
-items-requires : tie.Need-items-requires Inv-loop μ-loop
-items-requires c κs = search needs
-
-with-holder-requires : tie.Need-with-holder-requires Inv-loop μ-loop
-with-holder-requires c κs = search needs
-
-add-c : tie.Need-add-c Inv-loop μ-loop
-add-c c = search needs
-
-loop-less : tie.Need-loop-less Inv-loop μ-loop
-loop-less c = search needs
-
 loop-again : tie.Need-loop-again Inv-loop μ-loop
 loop-again c =
     let c1 = c .before in
@@ -54,9 +42,9 @@ holder-set-spec =
     Inv-loop
     μ-loop
     loop-holds
-    items-requires
-    with-holder-requires
-    add-c
-    loop-less
+    (λ c κs. search needs)
+    (λ c κs. search needs)
+    (λ c. search needs)
+    (λ c. search needs)
     loop-again
     returns)

@@ -13,15 +13,6 @@ returns c =
     let a = c2 .args in
     λ d n rules. refused-range (state (view (a .words .now) d n) rules) (a .i) (a .out .now) (omega arith)
 
-holder-set-requires : tie.Need-holder-set-requires
-holder-set-requires c κs = search needs
-
-count-requires : tie.Need-count-requires
-count-requires c κs = search needs
-
-cast-n : tie.Need-cast-n
-cast-n c = search needs
-
 returns-2 : tie.Need-returns-2
 returns-2 c =
     let c1 = c .before in
@@ -30,12 +21,6 @@ returns-2 c =
     let a = c5 .args in
     λ d n rules. refused-short (state (view (a .words .now) d n) rules) (a .i) (a .out .now) (omega arith) (c2 .holder-set .result) (c1 .count .result)
     (c2 .holder-set .ensures d n rules) (c1 .count .ensures) (omega arith)
-
-fill-requires : tie.Need-fill-requires
-fill-requires c κs = search needs
-
-same-length : tie.Need-same-length
-same-length c = search needs
 
 returns-3 : tie.Need-returns-3
 returns-3 c =
@@ -52,10 +37,10 @@ holders-in-spec =
     tie.close
     (tie.spec
     returns
-    holder-set-requires
-    count-requires
-    cast-n
+    (λ c κs. search needs)
+    (λ c κs. search needs)
+    (λ c. search needs)
     returns-2
-    fill-requires
-    same-length
+    (λ c κs. search needs)
+    (λ c. search needs)
     returns-3)

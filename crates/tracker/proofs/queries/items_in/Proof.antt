@@ -10,9 +10,6 @@ use Rattle.tracker.proofs.Holders.{items-given, items-refused}
 use Rattle.tracker.proofs.queries.items_in.Statement.{statement}
 use Rattle.tracker.proofs.queries.items_in.Tie as tie
 
-items-requires : tie.Need-items-requires
-items-requires c κs = search needs
-
 returns : tie.Need-returns
 unfolding view itemsOf replyOf
 returns c =
@@ -26,4 +23,4 @@ returns-2 c =
     λ d n rules. let a = c1 .args in items-refused (state (view (a .words .now) d n) rules) (a .c) (c .if1 .left)
 
 pub items-in-spec : {M : Type 1} → statement M
-items-in-spec = tie.close (tie.spec items-requires returns returns-2)
+items-in-spec = tie.close (tie.spec (λ c κs. search needs) returns returns-2)

@@ -6,12 +6,6 @@ use Rattle.tracker.proofs.Holders.{took, passed}
 use Rattle.tracker.proofs.queries.with_holder.Statement.{statement}
 use Rattle.tracker.proofs.queries.with_holder.Tie as tie
 
-member-requires : tie.Need-member-requires
-member-requires c κs = search needs
-
-with-requires : tie.Need-with-requires
-with-requires c κs = search needs
-
 returns : tie.Need-returns
 returns c =
     let a = c .before .before .before .args in
@@ -23,4 +17,4 @@ returns-2 c =
     sym (passed (a .x) (a .held) (a .i % 64) (a .c % 64) (sym (c .before .member .ensures) ∙ c .if1 .left))
 
 pub with-holder-spec : {M : Type 1} → statement M
-with-holder-spec = tie.close (tie.spec member-requires with-requires returns returns-2)
+with-holder-spec = tie.close (tie.spec (λ c κs. search needs) (λ c κs. search needs) returns returns-2)

@@ -18,20 +18,11 @@ abbrev μ-loop : tie.MeasureT-loop
 loop-holds : tie.Need-loop-holds Inv-loop μ-loop
 loop-holds c = finding-start _ _ (search needs)
 
-lowest-requires : tie.Need-lowest-requires Inv-loop μ-loop
-lowest-requires c κs = search needs
-
 cast-v : tie.Need-cast-v Inv-loop μ-loop
 cast-v c =
     let c1 = c .before in
     let c2 = c1 .before in
     omega (arith, turn-below _ (c2 .loop .inv .small) (c1 .loop-test .taken) _ (c .lowest .ensures))
-
-unused-set-requires : tie.Need-unused-set-requires Inv-loop μ-loop
-unused-set-requires c κs = search needs
-
-without-requires : tie.Need-without-requires Inv-loop μ-loop
-without-requires c κs = search needs
 
 loop-less : tie.Need-loop-less Inv-loop μ-loop
 loop-less c =
@@ -61,10 +52,10 @@ gone-spec =
     Inv-loop
     μ-loop
     loop-holds
-    lowest-requires
+    (λ c κs. search needs)
     cast-v
-    unused-set-requires
-    without-requires
+    (λ c κs. search needs)
+    (λ c κs. search needs)
     loop-less
     loop-again
     returns)

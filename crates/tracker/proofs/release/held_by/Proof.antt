@@ -7,15 +7,6 @@ use borrow.Author.Needs.{needs}
 use Rattle.tracker.proofs.release.held_by.Statement.{statement}
 use Rattle.tracker.proofs.release.held_by.Tie as tie
 
-block-files-requires : tie.Need-block-files-requires
-block-files-requires c κs = search needs
-
-feeders-requires : tie.Need-feeders-requires
-feeders-requires c κs = search needs
-
-fed-requires : tie.Need-fed-requires
-fed-requires c κs = search needs
-
 returns : tie.Need-returns
 unfolding heldBy view feedersOf feeds _∪_ _∩_
 returns c =
@@ -24,4 +15,4 @@ returns c =
     λ n. rw (c2 .block-files .ensures, c1 .feeders .ensures, c .fed .ensures)
 
 pub held-by-spec : {M : Type 1} → statement M
-held-by-spec = tie.close (tie.spec block-files-requires feeders-requires fed-requires returns)
+held-by-spec = tie.close (tie.spec (λ c κs. search needs) (λ c κs. search needs) (λ c κs. search needs) returns)

@@ -19,27 +19,6 @@ use Rattle.tracker.proofs.release.lost_by.Tie as tie
 abbrev row : tie.Start → Option Kind → ℕ
 row c = lostAt (view (c .args .words .now) (c .args .descriptors .now) (c .args .names .now) .tables) (c .args .q)
 
-descriptor-requires : tie.Need-descriptor-requires
-descriptor-requires c κs = search needs
-
-file-set-requires : tie.Need-file-set-requires
-file-set-requires c κs = search needs
-
-file-set-requires-2 : tie.Need-file-set-requires-2
-file-set-requires-2 c κs = search needs
-
-name-requires : tie.Need-name-requires
-name-requires c κs = search needs
-
-file-set-requires-3 : tie.Need-file-set-requires-3
-file-set-requires-3 c κs = search needs
-
-name-requires-2 : tie.Need-name-requires-2
-name-requires-2 c κs = search needs
-
-file-set-requires-4 : tie.Need-file-set-requires-4
-file-set-requires-4 c κs = search needs
-
 held-by-requires : tie.Need-held-by-requires
 held-by-requires c κs =
     let c1 = c .before in
@@ -54,9 +33,6 @@ add-with : tie.Need-add-with
 add-with c =
     let c2 = c .before .before in
     omega (arith, process-lt (c2 .pre))
-
-with-requires : tie.Need-with-requires
-with-requires c κs = search needs
 
 returns : tie.Need-returns
 unfolding view lostAt lostBy kinds descriptor
@@ -114,17 +90,17 @@ pub lost-by-spec : {M : Type 1} → statement M
 lost-by-spec =
     tie.close
     (tie.spec
-    descriptor-requires
-    file-set-requires
-    file-set-requires-2
-    name-requires
-    file-set-requires-3
-    name-requires-2
-    file-set-requires-4
+    (λ c κs. search needs)
+    (λ c κs. search needs)
+    (λ c κs. search needs)
+    (λ c κs. search needs)
+    (λ c κs. search needs)
+    (λ c κs. search needs)
+    (λ c κs. search needs)
     held-by-requires
     held-by-requires-2
     add-with
-    with-requires
+    (λ c κs. search needs)
     returns
     returns-2
     returns-3

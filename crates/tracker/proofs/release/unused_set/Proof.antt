@@ -6,16 +6,10 @@ use borrow.Author.Needs.{needs}
 use Rattle.tracker.proofs.release.unused_set.Statement.{statement}
 use Rattle.tracker.proofs.release.unused_set.Tie as tie
 
-in-use-requires : tie.Need-in-use-requires
-in-use-requires c κs = search needs
-
 returns : tie.Need-returns
 returns c =
     let c1 = c .before in
     unused-none _ _ _ (sym (c1 .in-use .ensures) ∙ c .if1 .taken)
-
-with-requires : tie.Need-with-requires
-with-requires c κs = search needs
 
 returns-2 : tie.Need-returns-2
 unfolding _∪_
@@ -25,4 +19,4 @@ returns-2 c =
     c .with .ensures ∙ unused-one _ _ _ (sym (c2 .in-use .ensures) ∙ c1 .if1 .left)
 
 pub unused-set-spec : {M : Type 1} → statement M
-unused-set-spec = tie.close (tie.spec in-use-requires returns with-requires returns-2)
+unused-set-spec = tie.close (tie.spec (λ c κs. search needs) returns (λ c κs. search needs) returns-2)

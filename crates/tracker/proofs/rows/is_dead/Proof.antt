@@ -18,9 +18,6 @@ use Rattle.tracker.proofs.rows.is_dead.Tie as tie
 abbrev row : tie.Start → List ℕ → List ℕ → Option Kind → Bool
 row c d n = deadAt (view (c .args .words .now) d n .tables) (c .args .q)
 
-is-live-requires : tie.Need-is-live-requires
-is-live-requires c κs = search needs
-
 returns : tie.Need-returns
 unfolding view deadAt dead kinds isKind kindNumber isLive
 returns c =
@@ -35,4 +32,4 @@ returns-2 c =
     λ d n. rw (c .is-live .ensures) (kind-rest (row (c2) d n) ((1 ∷ 19 ∷ []) ∷ []) refl _ (c1 .match .rest))
 
 pub is-dead-spec : {M : Type 1} → statement M
-is-dead-spec = tie.close (tie.spec is-live-requires returns returns-2)
+is-dead-spec = tie.close (tie.spec (λ c κs. search needs) returns returns-2)

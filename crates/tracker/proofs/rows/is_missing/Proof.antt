@@ -19,27 +19,6 @@ use Rattle.tracker.proofs.rows.is_missing.Tie as tie
 abbrev row : tie.Start → Option Kind → Bool
 row c = missingAt (view (c .args .words .now) (c .args .descriptors .now) (c .args .names .now) .tables) (c .args .q)
 
-feeders-requires : tie.Need-feeders-requires
-feeders-requires c κs = search needs
-
-holds-requires : tie.Need-holds-requires
-holds-requires c κs = search needs
-
-fed-requires : tie.Need-fed-requires
-fed-requires c κs = search needs
-
-holds-requires-2 : tie.Need-holds-requires-2
-holds-requires-2 c κs = search needs
-
-in-use-requires : tie.Need-in-use-requires
-in-use-requires c κs = search needs
-
-is-open-requires : tie.Need-is-open-requires
-is-open-requires c κs = search needs
-
-is-bound-requires : tie.Need-is-bound-requires
-is-bound-requires c κs = search needs
-
 returns : tie.Need-returns
 unfolding view missingAt missing kinds isOpen isBound descriptor name feedersOf feeds
 returns c =
@@ -94,13 +73,13 @@ pub is-missing-spec : {M : Type 1} → statement M
 is-missing-spec =
     tie.close
     (tie.spec
-    feeders-requires
-    holds-requires
-    fed-requires
-    holds-requires-2
-    in-use-requires
-    is-open-requires
-    is-bound-requires
+    (λ c κs. search needs)
+    (λ c κs. search needs)
+    (λ c κs. search needs)
+    (λ c κs. search needs)
+    (λ c κs. search needs)
+    (λ c κs. search needs)
+    (λ c κs. search needs)
     returns
     returns-2
     returns-3

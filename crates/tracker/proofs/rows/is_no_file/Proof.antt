@@ -18,9 +18,6 @@ use Rattle.tracker.proofs.rows.is_no_file.Tie as tie
 abbrev row : tie.Start → List ℕ → List ℕ → Option Kind → Bool
 row c w n = noFileAt (view w (c .args .descriptors .now) n .tables) (c .args .q)
 
-descriptor-requires : tie.Need-descriptor-requires
-descriptor-requires c κs = search needs
-
 returns : tie.Need-returns
 unfolding view noFileAt noFile kinds isKind kindNumber descriptor isDevice
 returns c =
@@ -35,4 +32,4 @@ returns-2 c =
     λ w n. kind-rest (row (c1) w n) ((10 ∷ []) ∷ []) refl _ (c .match .rest)
 
 pub is-no-file-spec : {M : Type 1} → statement M
-is-no-file-spec = tie.close (tie.spec descriptor-requires returns returns-2)
+is-no-file-spec = tie.close (tie.spec (λ c κs. search needs) returns returns-2)

@@ -17,39 +17,6 @@ use Rattle.tracker.proofs.rows.is_taken.Tie as tie
 abbrev row : tie.Start → Option Kind → Bool
 row c = takenAt (view (c .args .words .now) (c .args .descriptors .now) (c .args .names .now) .tables) (c .args .q)
 
-is-live-requires : tie.Need-is-live-requires
-is-live-requires c κs = search needs
-
-is-open-requires : tie.Need-is-open-requires
-is-open-requires c κs = search needs
-
-is-bound-requires : tie.Need-is-bound-requires
-is-bound-requires c κs = search needs
-
-is-open-requires-2 : tie.Need-is-open-requires-2
-is-open-requires-2 c κs = search needs
-
-in-use-requires : tie.Need-in-use-requires
-in-use-requires c κs = search needs
-
-is-open-requires-3 : tie.Need-is-open-requires-3
-is-open-requires-3 c κs = search needs
-
-is-open-requires-4 : tie.Need-is-open-requires-4
-is-open-requires-4 c κs = search needs
-
-in-use-requires-2 : tie.Need-in-use-requires-2
-in-use-requires-2 c κs = search needs
-
-is-open-requires-5 : tie.Need-is-open-requires-5
-is-open-requires-5 c κs = search needs
-
-is-bound-requires-2 : tie.Need-is-bound-requires-2
-is-bound-requires-2 c κs = search needs
-
-is-live-requires-2 : tie.Need-is-live-requires-2
-is-live-requires-2 c κs = search needs
-
 returns : tie.Need-returns
 unfolding view takenAt taken kinds isLive isOpen isBound descriptor name
 returns c =
@@ -113,17 +80,17 @@ pub is-taken-spec : {M : Type 1} → statement M
 is-taken-spec =
     tie.close
     (tie.spec
-    is-live-requires
-    is-open-requires
-    is-bound-requires
-    is-open-requires-2
-    in-use-requires
-    is-open-requires-3
-    is-open-requires-4
-    in-use-requires-2
-    is-open-requires-5
-    is-bound-requires-2
-    is-live-requires-2
+    (λ c κs. search needs)
+    (λ c κs. search needs)
+    (λ c κs. search needs)
+    (λ c κs. search needs)
+    (λ c κs. search needs)
+    (λ c κs. search needs)
+    (λ c κs. search needs)
+    (λ c κs. search needs)
+    (λ c κs. search needs)
+    (λ c κs. search needs)
+    (λ c κs. search needs)
     returns
     returns-2
     returns-3

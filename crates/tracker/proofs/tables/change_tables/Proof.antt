@@ -22,125 +22,20 @@ row c o = let m = view (c .args .words .now) (c .args .descriptors .now) (c .arg
 small : {x : ℕ} → x < 16 → x % 64 ≡ x
 small h = mod-eq-of-lt (omega arith)
 
-live-requires : tie.Need-live-requires
-live-requires c κs = search needs
-
-with-requires : tie.Need-with-requires
-with-requires c κs = search needs
-
-set-live-requires : tie.Need-set-live-requires
-set-live-requires c κs = search needs
-
-name-requires : tie.Need-name-requires
-name-requires c κs = search needs
-
-set-descriptor-requires : tie.Need-set-descriptor-requires
-set-descriptor-requires c κs = search needs
-
-set-descriptor-requires-2 : tie.Need-set-descriptor-requires-2
-set-descriptor-requires-2 c κs = search needs
-
-set-name-requires : tie.Need-set-name-requires
-set-name-requires c κs = search needs
-
-set-descriptor-requires-3 : tie.Need-set-descriptor-requires-3
-set-descriptor-requires-3 c κs = search needs
-
-set-descriptor-requires-4 : tie.Need-set-descriptor-requires-4
-set-descriptor-requires-4 c κs = search needs
-
-set-descriptor-requires-5 : tie.Need-set-descriptor-requires-5
-set-descriptor-requires-5 c κs = search needs
-
-descriptor-requires : tie.Need-descriptor-requires
-descriptor-requires c κs = search needs
-
-set-descriptor-requires-6 : tie.Need-set-descriptor-requires-6
-set-descriptor-requires-6 c κs = search needs
-
-set-descriptor-requires-7 : tie.Need-set-descriptor-requires-7
-set-descriptor-requires-7 c κs = search needs
-
-descriptor-requires-2 : tie.Need-descriptor-requires-2
-descriptor-requires-2 c κs = search needs
-
-feeders-requires : tie.Need-feeders-requires
-feeders-requires c κs = search needs
-
-fed-requires : tie.Need-fed-requires
-fed-requires c κs = search needs
-
-with-requires-2 : tie.Need-with-requires-2
-with-requires-2 c κs = search needs
-
 set-links-requires : tie.Need-set-links-requires
 set-links-requires c κs =
     let c9 = c .before .before .before .before .before .before .before .before .before in
     process-lt (c9 .pre)
-
-descriptor-requires-3 : tie.Need-descriptor-requires-3
-descriptor-requires-3 c κs = search needs
-
-feeders-requires-2 : tie.Need-feeders-requires-2
-feeders-requires-2 c κs = search needs
-
-fed-requires-2 : tie.Need-fed-requires-2
-fed-requires-2 c κs = search needs
-
-with-requires-3 : tie.Need-with-requires-3
-with-requires-3 c κs = search needs
-
-with-requires-4 : tie.Need-with-requires-4
-with-requires-4 c κs = search needs
 
 set-links-requires-2 : tie.Need-set-links-requires-2
 set-links-requires-2 c κs =
     let c10 = c .before .before .before .before .before .before .before .before .before .before in
     process-lt (c10 .pre)
 
-feeders-requires-3 : tie.Need-feeders-requires-3
-feeders-requires-3 c κs = search needs
-
-fed-requires-3 : tie.Need-fed-requires-3
-fed-requires-3 c κs = search needs
-
-without-requires : tie.Need-without-requires
-without-requires c κs = search needs
-
-without-requires-2 : tie.Need-without-requires-2
-without-requires-2 c κs = search needs
-
 set-links-requires-3 : tie.Need-set-links-requires-3
 set-links-requires-3 c κs =
     let c8 = c .before .before .before .before .before .before .before .before in
     process-lt (c8 .pre)
-
-set-name-requires-2 : tie.Need-set-name-requires-2
-set-name-requires-2 c κs = search needs
-
-name-requires-2 : tie.Need-name-requires-2
-name-requires-2 c κs = search needs
-
-set-name-requires-3 : tie.Need-set-name-requires-3
-set-name-requires-3 c κs = search needs
-
-set-name-requires-4 : tie.Need-set-name-requires-4
-set-name-requires-4 c κs = search needs
-
-name-requires-3 : tie.Need-name-requires-3
-name-requires-3 c κs = search needs
-
-set-name-requires-5 : tie.Need-set-name-requires-5
-set-name-requires-5 c κs = search needs
-
-feeders-requires-4 : tie.Need-feeders-requires-4
-feeders-requires-4 c κs = search needs
-
-fed-requires-4 : tie.Need-fed-requires-4
-fed-requires-4 c κs = search needs
-
-live-requires-2 : tie.Need-live-requires-2
-live-requires-2 c κs = search needs
 
 set-links-requires-4 : tie.Need-set-links-requires-4
 set-links-requires-4 c κs =
@@ -148,31 +43,10 @@ set-links-requires-4 c κs =
     let c8 = c7 .before in
     fork-other (c8 .pre) (c7 .match .keys14)
 
-with-requires-5 : tie.Need-with-requires-5
-with-requires-5 c κs = search needs
-
-set-live-requires-2 : tie.Need-set-live-requires-2
-set-live-requires-2 c κs = search needs
-
-copy-block-requires : tie.Need-copy-block-requires
-copy-block-requires c κs = search needs
-
-live-requires-3 : tie.Need-live-requires-3
-live-requires-3 c κs = search needs
-
 set-links-requires-5 : tie.Need-set-links-requires-5
 set-links-requires-5 c κs =
     let c4 = c .before .before .before .before in
     process-lt (c4 .pre)
-
-without-requires-3 : tie.Need-without-requires-3
-without-requires-3 c κs = search needs
-
-set-live-requires-3 : tie.Need-set-live-requires-3
-set-live-requires-3 c κs = search needs
-
-close-block-requires : tie.Need-close-block-requires
-close-block-requires c κs = search needs
 
 returns : tie.Need-returns
 unfolding view withLive withLinks withDescriptors withNames tablesAt tablesBy kinds descriptor name feedersOf feeds
@@ -323,53 +197,53 @@ pub change-tables-spec : {M : Type 1} → statement M
 change-tables-spec =
     tie.close
     (tie.spec
-    live-requires
-    with-requires
-    set-live-requires
-    name-requires
-    set-descriptor-requires
-    set-descriptor-requires-2
-    set-name-requires
-    set-descriptor-requires-3
-    set-descriptor-requires-4
-    set-descriptor-requires-5
-    descriptor-requires
-    set-descriptor-requires-6
-    set-descriptor-requires-7
-    descriptor-requires-2
-    feeders-requires
-    fed-requires
-    with-requires-2
+    (λ c κs. search needs)
+    (λ c κs. search needs)
+    (λ c κs. search needs)
+    (λ c κs. search needs)
+    (λ c κs. search needs)
+    (λ c κs. search needs)
+    (λ c κs. search needs)
+    (λ c κs. search needs)
+    (λ c κs. search needs)
+    (λ c κs. search needs)
+    (λ c κs. search needs)
+    (λ c κs. search needs)
+    (λ c κs. search needs)
+    (λ c κs. search needs)
+    (λ c κs. search needs)
+    (λ c κs. search needs)
+    (λ c κs. search needs)
     set-links-requires
-    descriptor-requires-3
-    feeders-requires-2
-    fed-requires-2
-    with-requires-3
-    with-requires-4
+    (λ c κs. search needs)
+    (λ c κs. search needs)
+    (λ c κs. search needs)
+    (λ c κs. search needs)
+    (λ c κs. search needs)
     set-links-requires-2
-    feeders-requires-3
-    fed-requires-3
-    without-requires
-    without-requires-2
+    (λ c κs. search needs)
+    (λ c κs. search needs)
+    (λ c κs. search needs)
+    (λ c κs. search needs)
     set-links-requires-3
-    set-name-requires-2
-    name-requires-2
-    set-name-requires-3
-    set-name-requires-4
-    name-requires-3
-    set-name-requires-5
-    feeders-requires-4
-    fed-requires-4
-    live-requires-2
+    (λ c κs. search needs)
+    (λ c κs. search needs)
+    (λ c κs. search needs)
+    (λ c κs. search needs)
+    (λ c κs. search needs)
+    (λ c κs. search needs)
+    (λ c κs. search needs)
+    (λ c κs. search needs)
+    (λ c κs. search needs)
     set-links-requires-4
-    with-requires-5
-    set-live-requires-2
-    copy-block-requires
-    live-requires-3
+    (λ c κs. search needs)
+    (λ c κs. search needs)
+    (λ c κs. search needs)
+    (λ c κs. search needs)
     set-links-requires-5
-    without-requires-3
-    set-live-requires-3
-    close-block-requires
+    (λ c κs. search needs)
+    (λ c κs. search needs)
+    (λ c κs. search needs)
     returns
     returns-2
     returns-3
