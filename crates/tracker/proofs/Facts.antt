@@ -25,6 +25,9 @@ use Rattle.tracker.specs.Rows.{asked, callIn, fitsAt, missingAt, Passes}
 pub below64 : {x : ℕ} → x < 64 → x % 64 ≡ x
 below64 h = mod-eq-of-lt h
 
+pub below16 : {x : ℕ} → x < 16 → x % 64 ≡ x
+below16 h = mod-eq-of-lt (omega arith)
+
 module _ (q : Call) where
   pub fit-process : (k : Kind) → fieldsFit (ranges k) (asked q k) ≡ true → q .process < 16
   unfolding ranges inRange

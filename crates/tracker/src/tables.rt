@@ -15,10 +15,104 @@ use store::lookups::name;
 use store::numbers::Descriptor;
 use store::numbers::Name;
 use store::numbers::Process;
+ghost use Prim.Native.Nat.{ℕ, _<_};
 ghost use mathlib.Core.Path.{_≡_};
+ghost use mathlib.Core.List.{List};
+ghost use lib.ListN.{getD, set};
+ghost use Rattle.sets.specs.Sets.{only, without, _∪_};
+ghost use Rattle.flow.specs.Box.{closed, slot, feedersOf, feeds};
+ghost use Rattle.flow.specs.Calls.{fork as forking, exit as exiting, withLive, withLinks, tablesBy};
 ghost use Rattle.flow.specs.Records.{kindOf};
-ghost use Rattle.store.specs.Maps.{withTables, mapsBefore, mapsAfter};
+ghost use Rattle.store.specs.Maps.{view, withTables, mapsBefore, mapsAfter};
 ghost use Rattle.tracker.specs.Rows.{tablesAt, Passes};
+
+// Makes process p live.
+fn start(words: &mut [u64; 97], p: u8)
+    requires { ⌜ p < 16 ⌝ }
+    ensures { λ _. ⌜ ((d n : List ℕ) → let m = view (now (words .entry)) d n in view (now (words .exit)) d n ≡ withTables m (withLive (m .tables) (m .tables .live ∪ only p))) ⌝ }
+{
+    let x = live(words);
+    set_live(words, sets::with(x, p));
+}
+
+// Descriptor b of process p leads where a does.
+fn dup(descriptors: &mut [u8; 512], p: u8, a: u8, b: u8)
+    ensures { λ _. ⌜ now (descriptors .exit) ≡ set (now (descriptors .entry)) (slot p b) (getD (now (descriptors .entry)) (slot p a) closed) ⌝ }
+{
+    let to = descriptor(descriptors, Process(p), Descriptor(a));
+    set_descriptor(descriptors, Process(p), Descriptor(b), to);
+}
+
+// A link from container c to process p.
+fn map_read(words: &mut [u64; 97], p: u8, c: u8)
+    requires { ⌜ (p < 16) × (c < 64) ⌝ }
+    ensures { λ _. ⌜ ((d n : List ℕ) → let m = view (now (words .entry)) d n in let t = m .tables in view (now (words .exit)) d n ≡ withTables m (withLinks t p (feedersOf t p ∪ only c) (feeds t p))) ⌝ }
+{
+    let x = feeders(words, Process(p));
+    let y = fed(words, Process(p));
+    set_links(words, Process(p), sets::with(x, c), y);
+}
+
+// Links both ways.
+fn map_both(words: &mut [u64; 97], p: u8, c: u8)
+    requires { ⌜ (p < 16) × (c < 64) ⌝ }
+    ensures { λ _. ⌜ ((d n : List ℕ) → let m = view (now (words .entry)) d n in let t = m .tables in view (now (words .exit)) d n ≡ withTables m (withLinks t p (feedersOf t p ∪ only c) (feeds t p ∪ only c))) ⌝ }
+{
+    let x = feeders(words, Process(p));
+    let y = fed(words, Process(p));
+    set_links(words, Process(p), sets::with(x, c), sets::with(y, c));
+}
+
+// Ends the links between process p and container c.
+fn unmap(words: &mut [u64; 97], p: u8, c: u8)
+    requires { ⌜ (p < 16) × (c < 64) ⌝ }
+    ensures { λ _. ⌜ ((d n : List ℕ) → let m = view (now (words .entry)) d n in let t = m .tables in view (now (words .exit)) d n ≡ withTables m (withLinks t p (without (feedersOf t p) c) (without (feeds t p) c))) ⌝ }
+{
+    let x = feeders(words, Process(p));
+    let y = fed(words, Process(p));
+    set_links(words, Process(p), sets::without(x, c), sets::without(y, c));
+}
+
+// Name b leads where a does.
+fn link(names: &mut [u8; 128], a: u8, b: u8)
+    ensures { λ _. ⌜ now (names .exit) ≡ set (now (names .entry)) b (getD (now (names .entry)) a closed) ⌝ }
+{
+    let to = name(names, Name(a));
+    set_name(names, Name(b), to);
+}
+
+// Name b leads where a did, and a is unbound.
+fn rename(names: &mut [u8; 128], a: u8, b: u8)
+    ensures { λ _. ⌜ now (names .exit) ≡ set (set (now (names .entry)) a closed) b (getD (now (names .entry)) a closed) ⌝ }
+{
+    let to = name(names, Name(a));
+    set_name(names, Name(a), CLOSED);
+    set_name(names, Name(b), to);
+}
+
+// The child is live, with the links and descriptors of process p.
+fn fork(words: &mut [u64; 97], descriptors: &mut [u8; 512], p: u8, child: u8)
+    requires { ⌜ (p < 16) × (child < 16) ⌝ }
+    ensures { λ _. ⌜ ((n : List ℕ) → let m = view (now (words .entry)) (now (descriptors .entry)) n in view (now (words .exit)) (now (descriptors .exit)) n ≡ withTables m (tablesBy (m .tables) p child 0 0 forking)) ⌝ }
+{
+    let x = feeders(words, Process(p));
+    let y = fed(words, Process(p));
+    let z = live(words);
+    set_links(words, Process(child), x, y);
+    set_live(words, sets::with(z, child));
+    copy_block(descriptors, Process(p), Process(child));
+}
+
+// Process p is dead, its descriptors are closed and its links ended.
+fn exit(words: &mut [u64; 97], descriptors: &mut [u8; 512], p: u8)
+    requires { ⌜ p < 16 ⌝ }
+    ensures { λ _. ⌜ ((n : List ℕ) → let m = view (now (words .entry)) (now (descriptors .entry)) n in view (now (words .exit)) (now (descriptors .exit)) n ≡ withTables m (tablesBy (m .tables) p 0 0 0 exiting)) ⌝ }
+{
+    let z = live(words);
+    set_links(words, Process(p), 0, 0);
+    set_live(words, sets::without(z, p));
+    close_block(descriptors, Process(p));
+}
 
 // Makes the tables those after a call that is not refused.
 pub fn change_tables(
@@ -36,14 +130,8 @@ pub fn change_tables(
     let b = q.b;
     let c = q.c;
     match kind {
-        1 => {
-            let x = live(words);
-            set_live(words, sets::with(x, p));
-        }
-        2 => {
-            let to = name(names, Name(a));
-            set_descriptor(descriptors, Process(p), Descriptor(b), to);
-        }
+        1 => start(words, p),
+        2 => set_descriptor(descriptors, Process(p), Descriptor(b), name(names, Name(a))),
         3 => {
             set_descriptor(descriptors, Process(p), Descriptor(b), c);
             set_name(names, Name(a), c);
@@ -52,59 +140,17 @@ pub fn change_tables(
             set_descriptor(descriptors, Process(p), Descriptor(a), c);
             set_descriptor(descriptors, Process(p), Descriptor(b), c);
         }
-        5 => {
-            set_descriptor(descriptors, Process(p), Descriptor(a), b);
-        }
-        6 => {
-            let to = descriptor(descriptors, Process(p), Descriptor(a));
-            set_descriptor(descriptors, Process(p), Descriptor(b), to);
-        }
-        7 => {
-            set_descriptor(descriptors, Process(p), Descriptor(a), CLOSED);
-        }
-        11 => {
-            let to = descriptor(descriptors, Process(p), Descriptor(a));
-            let x = feeders(words, Process(p));
-            let y = fed(words, Process(p));
-            set_links(words, Process(p), sets::with(x, to), y);
-        }
-        12 => {
-            let to = descriptor(descriptors, Process(p), Descriptor(a));
-            let x = feeders(words, Process(p));
-            let y = fed(words, Process(p));
-            set_links(words, Process(p), sets::with(x, to), sets::with(y, to));
-        }
-        13 => {
-            let x = feeders(words, Process(p));
-            let y = fed(words, Process(p));
-            set_links(words, Process(p), sets::without(x, a), sets::without(y, a));
-        }
-        14 => {
-            set_name(names, Name(a), CLOSED);
-        }
-        15 => {
-            let to = name(names, Name(a));
-            set_name(names, Name(a), CLOSED);
-            set_name(names, Name(b), to);
-        }
-        16 => {
-            let to = name(names, Name(a));
-            set_name(names, Name(b), to);
-        }
-        17 => {
-            let x = feeders(words, Process(p));
-            let y = fed(words, Process(p));
-            let z = live(words);
-            set_links(words, Process(a), x, y);
-            set_live(words, sets::with(z, a));
-            copy_block(descriptors, Process(p), Process(a));
-        }
-        18 => {
-            let z = live(words);
-            set_links(words, Process(p), 0, 0);
-            set_live(words, sets::without(z, p));
-            close_block(descriptors, Process(p));
-        }
+        5 => set_descriptor(descriptors, Process(p), Descriptor(a), b),
+        6 => dup(descriptors, p, a, b),
+        7 => set_descriptor(descriptors, Process(p), Descriptor(a), CLOSED),
+        11 => map_read(words, p, descriptor(descriptors, Process(p), Descriptor(a))),
+        12 => map_both(words, p, descriptor(descriptors, Process(p), Descriptor(a))),
+        13 => unmap(words, p, a),
+        14 => set_name(names, Name(a), CLOSED),
+        15 => rename(names, a, b),
+        16 => link(names, a, b),
+        17 => fork(words, descriptors, p, a),
+        18 => exit(words, descriptors, p),
         _ => {}
     }
 }

@@ -1,0 +1,21 @@
+-- The links of a process with one container less.
+use native.Mathlib.Nat.{mod-eq-of-lt}
+use mathlib.Core.Path.{_≡_, refl, _∙_}
+use Rattle.flow.specs.Box.{feedersOf, feeds}
+use Rattle.flow.specs.Calls.{withLinks}
+use Rattle.store.specs.Maps.{view}
+use borrow.Author.Needs.{needs}
+use Rattle.tracker.proofs.tables.unmap.Statement.{statement}
+use Rattle.tracker.proofs.tables.unmap.Tie as tie
+
+returns : tie.Need-returns
+unfolding view feedersOf feeds
+returns c d n =
+    let c1 = c .before in
+    let c2 = c1 .before in
+    let c4 = c2 .before .before in
+    let c6 = c4 .before .before in
+    c .set-links .ensures d n ∙ rw (c1 .without2 .ensures, c2 .without .ensures, c4 .fed .ensures, c6 .feeders .ensures, mod-eq-of-lt (c6 .before .before .pre .1)) refl
+
+pub unmap-spec : {M : Type 1} → statement M
+unmap-spec = tie.close (tie.spec (λ c κs. search needs) (λ c κs. search needs) (λ c κs. search needs) (λ c κs. search needs) (λ c κs. search needs) returns)
