@@ -10,7 +10,16 @@ use Rattle.flow.specs.Calls.{Kind, Call as Asked}
 use Rattle.flow.specs.Records.{kindOf, callBy, callFrom}
 use Rattle.flow.specs.Refusals.{fieldsFit, ranges, dead, taken, missing, sameDescriptors, noFile, callTests}
 use Rattle.tracker.specs.declared.Call.{Call}
-use Rattle.tracker.specs.Rows.{asked, callIn, known, fitsAt, deadAt, takenAt, missingAt, sameAt, noFileAt, lowestOf}
+use Rattle.tracker.specs.Rows.{asked, callIn, known, fitsAt, deadAt, takenAt, missingAt, sameAt, noFileAt}
+
+-- the number of the first that holds of dead process, taken, missing, same twice and no file, and 0 where none holds
+unfoldable lowestOf : Bool → Bool → Bool → Bool → Bool → ℕ
+lowestOf true taken missing same nofile = 6
+lowestOf false true missing same nofile = 7
+lowestOf false false true same nofile = 8
+lowestOf false false false true nofile = 9
+lowestOf false false false false true = 10
+lowestOf false false false false false = 0
 
 by-tests : (f d t m x y : Bool) → f ≡ true
     → refusalFrom (lowestOf d t m x y) ≡ firstThat ((not f ⇒ 5) ∷ (d ⇒ 6) ∷ (t ⇒ 7) ∷ (m ⇒ 8) ∷ (x ⇒ 9) ∷ (y ⇒ 10) ∷ [])
@@ -40,10 +49,41 @@ module _ (t : Tables) (q : Call) where
   lowest-by none h = absurd (false≢true h)
   lowest-by (some k) h = by-tests _ _ _ _ _ _ h
 
-  pub lowest-first : fitsAt q (kindOf (q .kind)) ≡ true
-      → (let o = kindOf (q .kind) in refusalFrom (lowestOf (deadAt t q o) (takenAt t q o) (missingAt t q o) (sameAt q o) (noFileAt t q o)) ≡ firstThat (callTests t (callIn q)))
+  abbrev kind : Option Kind
+  kind = kindOf (q .kind)
+
+  lowest-first : fitsAt q kind ≡ true → refusalFrom (lowestOf (deadAt t q kind) (takenAt t q kind) (missingAt t q kind) (sameAt q kind) (noFileAt t q kind)) ≡ firstThat (callTests t (callIn q))
   unfolding callFrom
-  lowest-first h = lowest-by (kindOf (q .kind)) h
+  lowest-first h = lowest-by kind h
+
+  -- the call fits: the first row that holds decides
+  module _ (fit : fitsAt q kind ≡ true) where
+    pub six-first : deadAt t q kind ≡ true → refusalFrom 6 ≡ firstThat (callTests t (callIn q))
+    unfolding lowestOf
+    six-first d = rw d at (lowest-first fit)
+
+    module _ (lives : deadAt t q kind ≡ false) where
+      pub seven-first : takenAt t q kind ≡ true → refusalFrom 7 ≡ firstThat (callTests t (callIn q))
+      unfolding lowestOf
+      seven-first a = rw (lives, a) at (lowest-first fit)
+
+      module _ (free : takenAt t q kind ≡ false) where
+        pub eight-first : missingAt t q kind ≡ true → refusalFrom 8 ≡ firstThat (callTests t (callIn q))
+        unfolding lowestOf
+        eight-first m = rw (lives, free, m) at (lowest-first fit)
+
+        module _ (there : missingAt t q kind ≡ false) where
+          pub nine-first : sameAt q kind ≡ true → refusalFrom 9 ≡ firstThat (callTests t (callIn q))
+          unfolding lowestOf
+          nine-first x = rw (lives, free, there, x) at (lowest-first fit)
+
+          pub ten-first : sameAt q kind ≡ false → noFileAt t q kind ≡ true → refusalFrom 10 ≡ firstThat (callTests t (callIn q))
+          unfolding lowestOf
+          ten-first x y = rw (lives, free, there, x, y) at (lowest-first fit)
+
+          pub none-first : sameAt q kind ≡ false → noFileAt t q kind ≡ false → refusalFrom 0 ≡ firstThat (callTests t (callIn q))
+          unfolding lowestOf
+          none-first x y = rw (lives, free, there, x, y) at (lowest-first fit)
 
   five-by : (o : Option Kind) → known o ≡ true → fitsAt q o ≡ false → refusalFrom 5 ≡ firstThat (callTests t (called o))
   unfolding known fitsAt callBy callTests

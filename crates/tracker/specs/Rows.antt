@@ -48,17 +48,6 @@ unfoldable pub noFileAt : Tables → Call → Option Kind → Bool
 noFileAt t q none = false
 noFileAt t q (some k) = noFile t (asked q k)
 
--- the number of the first that holds of dead process, taken, missing, same twice and no file, and 0 where none holds
-unfoldable pub lowestOf : Bool → Bool → Bool → Bool → Bool → ℕ
-lowestOf dead taken missing same nofile =
-    elim dead [
-      | true ↦ 6
-      | false ↦ elim taken [
-        | true ↦ 7
-        | false ↦ elim missing [ true ↦ 8 | false ↦ elim same [ true ↦ 9 | false ↦ elim nofile [ true ↦ 10 | false ↦ 0 ] ] ]
-      ]
-    ]
-
 unfoldable pub tablesAt : Tables → Call → Option Kind → Tables
 tablesAt t q none = t
 tablesAt t q (some k) = tablesBy t (q .process) (q .a) (q .b) (q .c) k

@@ -19,7 +19,7 @@ ghost use Rattle.flow.specs.Lists.{firstThat, refusalFrom};
 ghost use Rattle.flow.specs.Records.{kindOf};
 ghost use Rattle.flow.specs.Refusals.{callTests};
 ghost use Rattle.store.specs.Maps.{view, mapsBefore};
-ghost use Rattle.tracker.specs.Rows.{known, fitsAt, deadAt, takenAt, missingAt, sameAt, noFileAt, callIn, lowestOf};
+ghost use Rattle.tracker.specs.Rows.{known, fitsAt, deadAt, takenAt, missingAt, sameAt, noFileAt, callIn};
 
 // 4: whether the number is a kind's.
 fn is_known(kind: u8) -> bool
@@ -139,43 +139,30 @@ fn is_no_file(descriptors: &[u8; 512], q: Call) -> bool
     }
 }
 
-// The lowest refusal from 6 on that applies, or 0.
-fn lowest(dead: bool, taken: bool, missing: bool, same: bool, nofile: bool) -> u8
-    ensures { λ r. ⌜ r ≡ lowestOf dead taken missing same nofile ⌝ }
-{
-    if dead {
-        return 6;
-    }
-    if taken {
-        return 7;
-    }
-    if missing {
-        return 8;
-    }
-    if same {
-        return 9;
-    }
-    if nofile {
-        return 10;
-    }
-    0
-}
-
 // The first of the tests 4 to 10 that holds, or 0.
 pub fn refusal(words: &[u64; 97], descriptors: &[u8; 512], names: &[u8; 128], q: Call) -> u8
     ensures { λ r. ⌜ refusalFrom r ≡ firstThat (callTests (mapsBefore words descriptors names .tables) (callIn q)) ⌝ }
 {
-    if fits(q) {
-        return lowest(
-            is_dead(words, q),
-            is_taken(words, descriptors, names, q),
-            is_missing(words, descriptors, names, q),
-            is_same(q),
-            is_no_file(descriptors, q),
-        );
+    if !fits(q) {
+        if is_known(q.kind) {
+            return 5;
+        }
+        return 4;
     }
-    if is_known(q.kind) {
-        return 5;
+    if is_dead(words, q) {
+        return 6;
     }
-    4
+    if is_taken(words, descriptors, names, q) {
+        return 7;
+    }
+    if is_missing(words, descriptors, names, q) {
+        return 8;
+    }
+    if is_same(q) {
+        return 9;
+    }
+    if is_no_file(descriptors, q) {
+        return 10;
+    }
+    0
 }
