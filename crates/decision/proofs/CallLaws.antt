@@ -1,7 +1,8 @@
 -- A call of five bytes: refused, allowed or stopped.
-use Prim.Native.Nat.{ℕ, zero, suc}
+use Prim.Native.Nat.{ℕ, zero, suc, _<_}
 use native.Mathlib.Omega.{arith}
 use mathlib.Core.Path.{_≡_, refl, sym, ap, subst, _∙_}
+use mathlib.Core.Bool.{false}
 use mathlib.Core.List.{List}
 use mathlib.Core.Option.{Option, none, some}
 use lib.ListN.{length}
@@ -12,13 +13,15 @@ use Rattle.flow.specs.Records.{kindOf, callBy, callFrom, aCall}
 use Rattle.flow.specs.Refusals.{callTests, testsOf}
 use Rattle.flow.specs.Verdicts.{stopped, verdict}
 use Rattle.store.specs.declared.Plan.{Plan}
-use Rattle.store.specs.Maps.{Maps, itemsIn, view as mapsOf, part}
+use Rattle.sets.specs.Sets.{_∪_}
+use Rattle.store.specs.Maps.{Maps, withItems, itemsIn, view as mapsOf, part, itemsBy}
 use Rattle.store.proofs.Parts.{part-length}
 use Rattle.tracker.specs.declared.Call.{Call as Bytes}
 use Rattle.tracker.specs.Rows.{callIn, Passes}
-use Rattle.tracker.specs.Plans.{planAt}
-use Rattle.tracker.specs.Worked.{mapsBy, Foreseen}
-use Rattle.tracker.proofs.Joined.{foreseen}
+use Rattle.tracker.specs.Plans.{nothing, planAt, givesAt}
+use Rattle.tracker.specs.Worked.{given, finished, mapsBy, Foreseen}
+use Rattle.tracker.proofs.Joined.{quiet, quiet-given, still-passes, finished-call, foreseen}
+use Rattle.rules.proofs.AnewLaws.{nothing-given}
 use Rattle.rules.specs.Stored.{ruleAt, countOf}
 use Rattle.rules.specs.Judging.{Judged}
 use Rattle.decision.specs.declared.Monitor.{Monitor}
@@ -26,9 +29,9 @@ use Rattle.decision.specs.declared.Answer.{Answer}
 use Rattle.decision.specs.declared.Answer.the-variants.{Refused, Allow}
 use Rattle.decision.specs.declared.Answered.{Answered}
 use Rattle.decision.specs.View.{maps, monitor, view}
-use Rattle.decision.specs.Answers.{Sound, Answers, AnswersStopped}
+use Rattle.decision.specs.Answers.{Sound, Answers, Gives, AnswersStopped}
 use Rattle.decision.proofs.AnswerLaws.{refused-as, allowed-as, stopped-as}
-use Rattle.decision.proofs.VerdictLaws.{judged-none, judged-some, stops}
+use Rattle.decision.proofs.VerdictLaws.{judged-none, judged-some, found-lt, stops}
 
 -- a number other than 0 is a refusal, and 0 is none
 pub number-some : (n : ℕ) (o : Option ℕ) → refusalFrom n ≡ o → (n ≡ 0 → ⊥) → o ≡ some n
@@ -48,6 +51,52 @@ pub refused-call : (m : Monitor) (b : Bytes) (n : ℕ) → refusalFrom n ≡ fir
 unfolding view testsOf
 refused-call m b n e z = refused-as m (aCall (callIn b)) n (number-some n _ e z)
 
+-- ---- what a call gives
+module _ (m : Monitor) (b : Bytes) where
+  abbrev planned : Plan
+  planned = planAt (maps m) b (kindOf (b .kind))
+
+  -- a kind that does not give
+  pub gives-nothing : length (m .words) ≡ 97 → givesAt (kindOf (b .kind)) ≡ false → Gives m b 32 (m .words)
+  unfolding mapsOf _∪_
+  gives-nothing long h =
+      let e : planned ≡ nothing = quiet (maps m) b (kindOf (b .kind)) h in
+      record {
+        made = λ z. quiet-given (maps m) (part-length 1 64 (m .words) (omega arith)) b h;
+        passed = λ z. rw e (record { small = omega arith; small2 = omega arith; number = nothing-given nothing refl (itemsIn (m .words)) (m .sets) (m .fields) (countOf (m .fields)) refl });
+        kept = λ z. refl;
+        stopped = λ z. absurd (z refl);
+        broken = λ z. absurd (z refl);
+      }
+
+  module _ (plan : Plan) (p : plan ≡ planned) (k : ℕ) (j : Judged (itemsIn (m .words)) plan (m .sets) (m .fields) k) where
+    judged-so : Judged (itemsIn (m .words)) planned (m .sets) (m .fields) k
+    judged-so = subst (λ (x : Plan). Judged (itemsIn (m .words)) x (m .sets) (m .fields) k) p j
+
+    -- a rule is broken
+    pub gives-stopped : (k ≡ countOf (m .fields) → ⊥) → Gives m b k (m .words)
+    gives-stopped h =
+        let l : k < 32 = found-lt j h in
+        record {
+          made = λ z. absurd (let y : ⊥ = omega arith in y);
+          passed = λ z. absurd (let y : ⊥ = omega arith in y);
+          kept = λ z. refl;
+          stopped = λ z. judged-so;
+          broken = λ z. h;
+        }
+
+    -- none is
+    pub gives-made : k ≡ countOf (m .fields) → (w : List ℕ) → mapsOf w (m .descriptors) (m .names) ≡ withItems (maps m) (itemsBy (maps m .items) plan) → Gives m b 32 w
+    unfolding given
+    gives-made h w v =
+        record {
+          made = λ z. v ∙ ap (λ (x : Plan). withItems (maps m) (itemsBy (maps m .items) x)) p;
+          passed = λ z. subst (Judged (itemsIn (m .words)) planned (m .sets) (m .fields)) h judged-so;
+          kept = λ z. absurd (z refl);
+          stopped = λ z. absurd (z refl);
+          broken = λ z. absurd (z refl);
+        }
+
 -- a call that is not refused has a known kind
 known-by : (m : Monitor) (b : Bytes) (o : Option Kind) → firstThat (callTests (maps m .tables) (callBy o (b .process) (b .a) (b .b) (b .c))) ≡ none
     → (q : Call) × (callBy o (b .process) (b .a) (b .b) (b .c) ≡ some q)
@@ -60,7 +109,7 @@ unfolding callFrom
 known m b e = known-by m b (kindOf (b .kind)) e
 
 module _ (m : Monitor) (b : Bytes) (long : length (m .words) ≡ 97) (named : length (m .names) ≡ 128) (n : ℕ) (e : refusalFrom n ≡ firstThat (callTests (maps m .tables) (callIn b))) (z : n ≡ 0)
-    (plan : Plan) (p : plan ≡ planAt (maps m) b (kindOf (b .kind))) (k : ℕ) (j : Judged (itemsIn (m .words)) plan (m .sets) (m .fields) k) where
+    (k : ℕ) (w : List ℕ) (g : Gives m b k w) where
   untested : firstThat (callTests (maps m .tables) (callIn b)) ≡ none
   untested = number-none n _ e z
 
@@ -75,26 +124,38 @@ module _ (m : Monitor) (b : Bytes) (long : length (m .words) ≡ 97) (named : le
   unfolding view
   untested-call = ap (λ (o : Option Call). firstThat (callTests (maps m .tables) o)) (sym asked-is) ∙ untested
 
-  sees : Foreseen (itemsIn (m .words)) (after (view m) (change (view m .tables) asked) .items) plan
+  sees : Foreseen (itemsIn (m .words)) (after (view m) (change (view m .tables) asked) .items) (planned m b)
   unfolding view after mapsOf
-  sees = subst (λ (x : Plan). Foreseen (itemsIn (m .words)) (itemsAfter (maps m .tables) (maps m .items) (change (maps m .tables) asked)) x) (sym p) (foreseen (maps m) (part-length 1 64 (m .words) (omega arith)) (part-length 65 16 (m .words) (omega arith)) (part-length 81 16 (m .words) (omega arith)) named b asked asked-is untested)
+  sees = foreseen (maps m) (part-length 1 64 (m .words) (omega arith)) (part-length 65 16 (m .words) (omega arith)) (part-length 81 16 (m .words) (omega arith)) named b asked asked-is untested
 
   same-rules : after (view m) (change (view m .tables) asked) .rules ≡ view m .rules
   unfolding after
   same-rules = refl
 
+  -- the rest of the call may be made
+  pub passes-still : k ≡ 32 → Passes w (m .descriptors) (m .names) b
+  passes-still z = still-passes (m .words) (m .descriptors) (m .names) w b (record { none-holds = untested }) (g .made z)
+
   -- no rule is broken
-  allowed-asked : (t : Monitor) → k ≡ countOf (m .fields) → view t ≡ after (view m) (change (view m .tables) asked) → Answers m (aCall (some asked)) (record { answer = Allow; monitor = t })
-  allowed-asked t c v = allowed-as m asked untested-call t v (judged-none m plan _ same-rules sees k j c)
+  changed-view : k ≡ 32 → (x d names : List ℕ) → mapsOf x d names ≡ finished (mapsOf w (m .descriptors) (m .names)) b → view (monitor x d names (m .sets) (m .fields)) ≡ after (view m) (change (view m .tables) asked)
+  unfolding view after mapsBy mapsOf
+  changed-view z x d names v =
+      ap (λ (s : Maps). record { tables = s .tables; items = s .items; rules = view m .rules })
+      (v ∙ ap (λ (s : Maps). finished s b) (g .made z) ∙ finished-call (maps m) (part-length 1 64 (m .words) (omega arith)) (part-length 65 16 (m .words) (omega arith)) (part-length 81 16 (m .words) (omega arith)) named b untested ∙ ap (λ (o : Option Call). mapsBy (maps m) o none) asked-is)
 
-  changed-view : (w d names : List ℕ) → mapsOf w d names ≡ mapsBy (maps m) (callIn b) none → view (monitor w d names (m .sets) (m .fields)) ≡ after (view m) (change (view m .tables) asked)
-  unfolding view after mapsBy
-  changed-view w d names v = ap (λ (x : Maps). record { tables = x .tables; items = x .items; rules = view m .rules }) (v ∙ ap (λ (o : Option Call). mapsBy (maps m) o none) asked-is)
+  pub allowed-call : k ≡ 32 → (x d names : List ℕ) → mapsOf x d names ≡ finished (mapsOf w (m .descriptors) (m .names)) b
+      → Answers m (aCall (callIn b)) (record { answer = Allow; monitor = monitor x d names (m .sets) (m .fields) })
+  allowed-call z x d names v = rw asked-is (allowed-as m asked untested-call _ (changed-view z x d names v) (judged-none m (planned m b) _ same-rules sees _ (g .passed z) refl))
 
-  pub allowed-call : (w d names : List ℕ) → k ≡ countOf (m .fields) → mapsOf w d names ≡ mapsBy (maps m) (callIn b) none
-      → Answers m (aCall (callIn b)) (record { answer = Allow; monitor = monitor w d names (m .sets) (m .fields) })
-  allowed-call w d names c v = rw asked-is (allowed-asked _ c (changed-view w d names v))
+  pub stopped-call : (k ≡ 32 → ⊥) → (r : Answered) → ((x : Call) → callIn b ≡ some x → AnswersStopped (monitor w (m .descriptors) (m .names) (m .sets) (m .fields)) x k r) → Answers m (aCall (callIn b)) r
+  stopped-call z r s =
+      rw asked-is
+      (stopped-as m asked untested-call k r (subst (λ (x : List ℕ). AnswersStopped (monitor x (m .descriptors) (m .names) (m .sets) (m .fields)) asked k r) (g .kept z) (s asked asked-is))
+      (λ h. stops (view m) asked _ (judged-some m (planned m b) _ same-rules sees k (g .stopped z) (g .broken z) h)))
 
-  pub stopped-call : (k ≡ countOf (m .fields) → ⊥) → (r : Answered) → ((x : Call) → callIn b ≡ some x → AnswersStopped m x k r) → Answers m (aCall (callIn b)) r
-  stopped-call c r w =
-      rw asked-is (stopped-as m asked untested-call k r (w asked asked-is) (λ h. stops (view m) asked _ (judged-some m plan _ same-rules sees k j c h)))
+  -- the rule is one of the 32, and the call passes on the words that were kept
+  pub stopped-lt : (k ≡ 32 → ⊥) → k < 32
+  stopped-lt z = found-lt (g .stopped z) (g .broken z)
+
+  pub stopped-passes : (k ≡ 32 → ⊥) → Passes w (m .descriptors) (m .names) b
+  stopped-passes z = subst (λ (x : List ℕ). Passes x (m .descriptors) (m .names) b) (sym (g .kept z)) (record { none-holds = untested })

@@ -5,21 +5,26 @@ use mathlib.Core.Logic.{_↔_}
 use mathlib.Core.List.{List}
 use mathlib.Core.Option.{none, some}
 use Rattle.flow.specs.Lists.{firstThat}
-use Rattle.flow.specs.Box.{fresh}
+use Rattle.flow.specs.Box.{ruleCount, fresh}
 use Rattle.flow.specs.Calls.{Call}
 use Rattle.flow.specs.Rules.{lowestBroken}
-use Rattle.flow.specs.Records.{Reading, aCall, callFrom, reading}
+use Rattle.flow.specs.Records.{kindOf, Reading, aCall, callFrom, reading}
 use Rattle.flow.specs.Refusals.{testsOf}
 use Rattle.flow.specs.Verdicts.{Answer as Word, refused, rule, allow, inhibit, modify, stopped, outcomeOf, answerOf, stateAfter}
 use Rattle.flow.specs.Queries.{itemsQuery}
 use Rattle.tracker.specs.declared.queries.Reply.{Reply}
 use Rattle.tracker.specs.Replies.{replyOf}
-use Rattle.rules.specs.Stored.{ruleAt}
+use Rattle.store.specs.Maps.{itemsIn, view as mapsOf}
+use Rattle.tracker.specs.declared.Call.{Call as Bytes}
+use Rattle.tracker.specs.Plans.{planAt}
+use Rattle.tracker.specs.Worked.{given}
+use Rattle.rules.specs.Stored.{ruleAt, countOf}
+use Rattle.rules.specs.Judging.{Judged}
 use Rattle.decision.specs.declared.Monitor.{Monitor}
 use Rattle.decision.specs.declared.Answer.{Answer}
 use Rattle.decision.specs.declared.Answer.the-variants.{Refused, Loaded, Allow, Inhibit, Modify}
 use Rattle.decision.specs.declared.Answered.{Answered}
-use Rattle.decision.specs.View.{view}
+use Rattle.decision.specs.View.{maps, view}
 
 -- the word and the numbers of each answer
 unfoldable pub wordOf : Answer → Word
@@ -61,6 +66,14 @@ AnswersCall m kind p a b c r = Answers m (aCall (callFrom kind p a b c)) r
 -- `Monitor::items`: the items of container c
 abbrev pub AnswersItems : Monitor → ℕ → Reply → Type 0
 AnswersItems m c r = replyOf r ≡ itemsQuery (view m) c
+
+-- ---- what a call that is not refused gives: rule number k stops it and nothing is stored, or k is 32 and the words are those once it is made
+pub record Gives (m : Monitor) (q : Bytes) (k : ℕ) (words : List ℕ) : Type 0 where
+  pub made : k ≡ ruleCount → mapsOf words (m .descriptors) (m .names) ≡ given (maps m) q
+  pub passed : k ≡ ruleCount → Judged (itemsIn (m .words)) (planAt (maps m) q (kindOf (q .kind))) (m .sets) (m .fields) (countOf (m .fields))
+  pub kept : (k ≡ ruleCount → ⊥) → words ≡ m .words
+  pub stopped : (k ≡ ruleCount → ⊥) → Judged (itemsIn (m .words)) (planAt (maps m) q (kindOf (q .kind))) (m .sets) (m .fields) k
+  pub broken : (k ≡ ruleCount → ⊥) → k ≡ countOf (m .fields) → ⊥
 
 -- ---- a call that rule number k stops (01, What a record gets): diverted or inhibited
 pub record AnswersStopped (m : Monitor) (q : Call) (k : ℕ) (r : Answered) : Type 0 where

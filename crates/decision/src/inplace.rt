@@ -23,7 +23,8 @@ use store::sizes;
 use store::spread::reach;
 use tracker::Call;
 use tracker::Tracker;
-use tracker::calls::make;
+use tracker::calls::finish;
+use tracker::plan::gives;
 use tracker::plan::giving;
 use tracker::plan::plan_of;
 use tracker::queries::Reply;
@@ -39,7 +40,7 @@ ghost use Rattle.tracker.specs.Rows.{callIn, Passes};
 ghost use Rattle.rules.specs.Stored.{ruleFrom};
 ghost use Rattle.decision.specs.View.{monitor, monitorBefore, monitorAfter};
 ghost use Rattle.decision.specs.Logs.{AnswersLog};
-ghost use Rattle.decision.specs.Answers.{IsFresh, AnswersRecord, Answers, AnswersStopped};
+ghost use Rattle.decision.specs.Answers.{IsFresh, AnswersRecord, Answers, Gives, AnswersStopped};
 
 const CONFINE_TAG: u8 = 0x13;
 
@@ -95,6 +96,31 @@ fn stop_in(
     Answer::Modify(k, c)
 }
 
+// Judges what a call that is not refused gives, and makes it where no rule is broken. Answers the rule that stops it, or 32.
+fn give_in(
+    words: &mut [u64; 97],
+    descriptors: &[u8; 512],
+    names: &[u8; 128],
+    sets: &[u64; 32],
+    fields: &[u8; 129],
+    q: Call,
+) -> u8
+    requires { ⌜ Passes (now words) (now descriptors) (now names) q ⌝ }
+    ensures { λ k. ⌜ Gives (monitorBefore words descriptors names sets fields) q k (now (words .exit)) ⌝ }
+{
+    sizes(words, names);
+    if !gives(q.kind) {
+        return RULE_COUNT;
+    }
+    let plan = plan_of(words, descriptors, names, q);
+    let k = judge(words, plan, sets, fields);
+    if k != count(fields) {
+        return k;
+    }
+    make_items(words, plan);
+    RULE_COUNT
+}
+
 // What a call of any five bytes gets.
 pub fn call_in(
     words: &mut [u64; 97],
@@ -111,13 +137,12 @@ pub fn call_in(
     if n != 0 {
         return Answer::Refused(n);
     }
-    let plan = plan_of(words, descriptors, names, q);
-    let k = judge(words, plan, sets, fields);
-    if k == count(fields) {
-        make(words, descriptors, names, q, plan);
-        return Answer::Allow;
+    let k = give_in(words, descriptors, names, sets, fields, q);
+    if k != RULE_COUNT {
+        return stop_in(words, descriptors, names, sets, fields, q, k);
     }
-    stop_in(words, descriptors, names, sets, fields, q, k)
+    finish(words, descriptors, names, q);
+    Answer::Allow
 }
 
 // What a rule gets.

@@ -6,6 +6,7 @@ use native.Mathlib.Decide.{ℕ-discrete}
 use mathlib.Core.Path.{_≡_, refl, sym, ap, ap₂, _∙_}
 use mathlib.Core.Bool.{Bool, true, false, not, _&&_, _||_, or-false, and-comm, and-or-distrib-left}
 use mathlib.Core.List.{List, [], _∷_}
+use lib.Bits.{or-zero-l}
 use lib.Dec.{ltb, leb, eqb}
 use lib.ListN.{length, getD, take}
 use borrow.Author.Tests.{ltb-true, leb-true, eqb-true, eq-eqb, ne-eqb}
@@ -76,3 +77,8 @@ module _ {t : Tables} {lost found left : ℕ} (f : Finding t lost found left) wh
           let w : (has found v || (true && not (used t v))) ≡ (has lost v && not (used t v)) = ap (λ (b : Bool). has found v || (b && not (used t v))) (sym (member left (f .small) more v is)) ∙ f .same v l in
           rw (without-at left v c h d, eq-eqb v c (sym d), or-false, d) w
       go c h l (no d) = rw (without-other left v c h d, ne-eqb v c (λ q. d (sym q)), or-false) (f .same c h)
+
+-- the first of them
+pub finding-first : {t : Tables} {lost : ℕ} → lost < 2 ^ 64 → (lost ≡ 0 → ⊥) → (v : ℕ) → v ≡ lowest lost → (u later : ℕ) → u ≡ unusedSet t v (v % 64) → later ≡ without lost (v % 64) → Finding t lost u later
+unfolding _∪_
+finding-first {t} {lost} h more v is u later e g = rw (or-zero-l u) at (finding-more (finding-start t lost h) more v is u later e g)

@@ -2,23 +2,23 @@
 use Prim.Native.Nat.{ℕ, zero, suc, _<_}
 use native.Mathlib.Omega.{arith}
 use mathlib.Core.Path.{_≡_, refl, sym, ap, ap₂, _∙_}
-use mathlib.Core.Bool.{Bool, true, false, not, _&&_, _||_, and-comm}
+use mathlib.Core.Bool.{Bool, true, false, not, _&&_, _||_, and-comm, true≢false}
 use mathlib.Core.List.{List}
 use mathlib.Core.Option.{Option, none, some}
 use lib.Dec.{eqb}
 use lib.Bits.{or-zero-l}
 use lib.ListN.{length, getD}
 use lib.Seq.{ext-getD}
-use borrow.Author.Tests.{ltb-true, eqb-true}
+use borrow.Author.Tests.{ltb-true, eqb-true, eq-eqb, ne-eqb}
 use Rattle.sets.specs.Sets.{has, only, those, _∪_}
-use Rattle.sets.proofs.Members.{those-has, none-has, only-has, union-has, eqb-sym}
+use Rattle.sets.proofs.Members.{those-has, none-has, only-has, union-has, without-has, eqb-sym}
 use Rattle.flow.specs.Lists.{firstThat, refusalFrom, table}
 use Rattle.flow.specs.Box.{containerOf, Tables, descriptor}
 use Rattle.flow.specs.Links.{reach, given, isFed, used}
 use Rattle.flow.specs.Calls.{Kind, start, openName, create, pipe, device, dup, close, read, write, truncate, mapRead, mapBoth, unmap, unlink, rename, link, fork, exit, label, Call as Asked, Flow, still, gift, arrival, exchange, copy, clear, Change, withLive, withLinks, withDescriptors, tablesBy, flowBy, change, moved, ended, itemsAfter}
 use Rattle.flow.specs.Records.{kindOf, callBy, callFrom}
 use Rattle.flow.specs.Refusals.{ranges, inRange, callTests}
-use Rattle.flow.proofs.Bools.{or-elim, by, no-both, choice, chosen-r}
+use Rattle.flow.proofs.Bools.{or-elim, or-r, by, no-both, choice, chosen-l, chosen-r}
 use Rattle.flow.proofs.TableLaws.{table-at, table-length, is-table}
 use Rattle.flow.proofs.Moves.{given-at}
 use Rattle.flow.proofs.Rows.{now-live}
@@ -29,8 +29,8 @@ use Rattle.store.specs.Maps.{Maps, withTables, withItems, changed, view, cleare
 use Rattle.store.proofs.Words.{by-length}
 use Rattle.tracker.specs.declared.Call.{Call}
 use Rattle.tracker.specs.Rows.{asked, callIn, tablesAt, Passes}
-use Rattle.tracker.specs.Plans.{planOf, planBy, planAt, freeSet, empties, gives, heldBy, lostBy, lostAt, goneOf}
-use Rattle.tracker.specs.Worked.{Worked, done, mapsBy, worked, Foreseen}
+use Rattle.tracker.specs.Plans.{nothing, planOf, planBy, planAt, givesBy, givesAt, freeSet, emptiedBy, emptiedAt, gives, heldBy, lostBy, lostAt, goneOf}
+use Rattle.tracker.specs.Worked.{given as givenBy, finished, Worked, done, mapsBy, worked, Foreseen}
 use Rattle.tracker.proofs.Facts.{fit-process, accepted}
 use Rattle.tracker.proofs.Ending.{Ends, ends}
 
@@ -53,9 +53,18 @@ module _ (m : Maps) (long : length (m .items) ≡ 64) where
   abbrev items : List ℕ
   items = m .items
 
+  -- what a flow clears
+  emptiedOf : Flow → ℕ
+  emptiedOf still = 0
+  emptiedOf (gift g u) = 0
+  emptiedOf (arrival u i) = 0
+  emptiedOf (exchange a b) = 0
+  emptiedOf (copy a b) = 0
+  emptiedOf (clear u) = only u
+
   as-gifts : (v : ℕ) → v < 64 → (f : Flow)
-      → plus (has (planOf m f .to2) v) (planOf m f .given2) (plus (has (planOf m f .to) v) (planOf m f .given) (unless (has (planOf m f .empty) v) (getD items v 0))) ≡ getD (moved (m .tables) items f) v 0
-  unfolding planOf moved _∪_
+      → unless (has (emptiedOf f) v) (plus (has (planOf m f .to2) v) (planOf m f .given2) (plus (has (planOf m f .to) v) (planOf m f .given) (unless (has (planOf m f .empty) v) (getD items v 0)))) ≡ getD (moved (m .tables) items f) v 0
+  unfolding emptiedOf planOf moved _∪_
   as-gifts v h still = rw (none-has v)
   as-gifts v h (gift g u) = rw (none-has v) (sym (given-at items (reach (m .tables) u) (getD items g 0) v h))
   as-gifts v h (arrival u i) = rw (none-has v) (sym (given-at items (reach (m .tables) u) (only i) v h))
@@ -78,14 +87,18 @@ module _ (m : Maps) (long : length (m .items) ≡ 64) where
   moved-length (copy a b) = table-length 64 _
   moved-length (clear u) = table-length 64 _
 
-  moved-made : (f : Flow) → itemsBy items (planOf m f) ≡ moved (m .tables) items f
-  moved-made f =
-      ext-getD 0 _ _ (by-length _ _ ∙ sym (moved-length f))
-      (λ v l. let h : v < 64 = omega (arith, by-length items (planOf m f)) in by-container items (planOf m f) v h ∙ as-gifts v h f)
+  moved-made : (f : Flow) → cleared (itemsBy items (planOf m f)) (emptiedOf f) ≡ moved (m .tables) items f
+  unfolding cleared
+  moved-made f = sym (is-table 64 _ _ (moved-length f) (λ v h. sym (ap (unless (has (emptiedOf f) v)) (by-container items (planOf m f) v h) ∙ as-gifts v h f)))
+
+  -- nothing given is nothing changed
+  pub unmoved : itemsBy items nothing ≡ items
+  unfolding _∪_
+  unmoved = ext-getD 0 _ _ (by-length _ _ ∙ sym long) (λ v l. let h : v < 64 = omega (arith, by-length items nothing) in by-container items nothing v h ∙ rw (none-has v) refl)
 
 -- a truncation's flow goes by a test
 plan-is : (m : Maps) (p a b c : ℕ) (k : Kind) → planBy m p a b c k ≡ planOf m (flowBy (m .tables) p a b c k)
-unfolding planBy planOf flowBy freeSet
+unfolding planBy planOf flowBy
 plan-is m p a b c start = refl
 plan-is m p a b c openName = refl
 plan-is m p a b c create = refl
@@ -95,11 +108,7 @@ plan-is m p a b c dup = refl
 plan-is m p a b c close = refl
 plan-is m p a b c read = refl
 plan-is m p a b c write = refl
-plan-is m p a b c truncate = go (isFed (m .tables) (descriptor (m .tables) p a))
-  where
-    go : (d : Bool) → empties (elim d as (λ z. ℕ) [ true ↦ 0 | false ↦ only (descriptor (m .tables) p a) ]) ≡ planOf m (elim d as (λ z. Flow) [ true ↦ still | false ↦ clear (descriptor (m .tables) p a) ])
-    go true = refl
-    go false = refl
+plan-is m p a b c truncate = sym (choice (λ (f : Flow). planOf m f ≡ nothing) (isFed (m .tables) (descriptor (m .tables) p a)) still (clear (descriptor (m .tables) p a)) (λ e. refl) (λ e. refl))
 plan-is m p a b c mapRead = refl
 plan-is m p a b c mapBoth = refl
 plan-is m p a b c unmap = refl
@@ -109,6 +118,44 @@ plan-is m p a b c link = refl
 plan-is m p a b c fork = refl
 plan-is m p a b c exit = refl
 plan-is m p a b c label = refl
+
+-- a kind that does not give has no plan
+quiet-by : (m : Maps) (p a b c : ℕ) (k : Kind) → givesBy k ≡ false → planBy m p a b c k ≡ nothing
+unfolding givesBy planBy planOf flowBy
+quiet-by m p a b c start h = refl
+quiet-by m p a b c openName h = refl
+quiet-by m p a b c create h = refl
+quiet-by m p a b c pipe h = refl
+quiet-by m p a b c device h = refl
+quiet-by m p a b c dup h = refl
+quiet-by m p a b c close h = refl
+quiet-by m p a b c read h = absurd (true≢false h)
+quiet-by m p a b c write h = absurd (true≢false h)
+quiet-by m p a b c truncate h = refl
+quiet-by m p a b c mapRead h = absurd (true≢false h)
+quiet-by m p a b c mapBoth h = absurd (true≢false h)
+quiet-by m p a b c unmap h = refl
+quiet-by m p a b c unlink h = refl
+quiet-by m p a b c rename h = refl
+quiet-by m p a b c link h = refl
+quiet-by m p a b c fork h = absurd (true≢false h)
+quiet-by m p a b c exit h = refl
+quiet-by m p a b c label h = absurd (true≢false h)
+
+pub quiet : (m : Maps) (q : Call) (o : Option Kind) → givesAt o ≡ false → planAt m q o ≡ nothing
+unfolding givesAt planAt
+quiet m q none h = refl
+quiet m q (some k) h = quiet-by m (q .process) (q .a) (q .b) (q .c) k h
+
+-- and leaves the maps as they are
+pub quiet-given : (m : Maps) → length (m .items) ≡ 64 → (q : Call) → givesAt (kindOf (q .kind)) ≡ false → m ≡ givenBy m q
+unfolding givenBy
+quiet-given m long q h = ap (withItems m) (sym (ap (itemsBy (m .items)) (quiet m q (kindOf (q .kind)) h) ∙ unmoved m long))
+
+-- a call that passes still does once its gifts are made
+pub still-passes : (w d n x : List ℕ) (q : Call) → Passes w d n q → view x d n ≡ givenBy (view w d n) q → Passes x d n q
+unfolding givenBy
+still-passes w d n x q h e = record { none-holds = ap (λ (m : Maps). firstThat (callTests (m .tables) (callIn q))) e ∙ h .none-holds }
 
 -- ---- what is released
 lost-ended : (m : Maps) (x : Change) (lost : ℕ) → Ends (m .tables) (x .tables) lost
@@ -129,45 +176,96 @@ none-gone : (t : Tables) (v : ℕ) → v < 64 → has (goneOf t 0) v ≡ false
 unfolding goneOf
 none-gone t v h = those-has _ v h ∙ ap (λ (b : Bool). b && not (used t v)) (none-has v)
 
+-- where nothing is emptied, all stays
+kept : (l : List ℕ) → length l ≡ 64 → cleared l 0 ≡ l
+unfolding cleared
+kept l e = sym (is-table 64 _ l e (λ c h. sym (chosen-r (has 0 c) 0 _ (none-has c))))
+
+-- less what is dropped is no more
+unless-less : (b : Bool) (x i : ℕ) → has (unless b x) i ≡ true → has x i ≡ true
+unless-less true x i h = no-both h (none-has i)
+unless-less false x i h = h
+
+-- what is gone need not be emptied
+dropped : (l : List ℕ) (x u : ℕ) → has x u ≡ true → cleared (cleared l 0) x ≡ cleared (cleared l (only u)) x
+unfolding cleared
+dropped l x u g = is-table 64 _ _ (table-length 64 _) (λ v h. table-at 64 _ v 0 h ∙ ap (unless (has x v)) (table-at 64 _ v 0 h) ∙ same v ∙ ap (unless (has x v)) (sym (table-at 64 _ v 0 h)))
+  where
+    same : (v : ℕ) → unless (has x v) (unless (has 0 v) (getD l v 0)) ≡ unless (has x v) (unless (has (only u) v) (getD l v 0))
+    same v =
+        rw (none-has v, only-has u v)
+        (by (has x v) (λ e. rw e refl) (λ e. ap (unless (has x v)) (sym (chosen-r (eqb u v) 0 (getD l v 0) (ne-eqb u v (λ d. no-both (ap (has x) (sym d) ∙ g) e))))))
+
 -- ---- a call that is not refused
 module _ (m : Maps) (long : length (m .items) ≡ 64) (lf : length (m .tables .feeders) ≡ 16) (lg : length (m .tables .fed) ≡ 16) (ln : length (m .tables .names) ≡ 128) (q : Call) where
-  -- the items moved, then what is no longer in use emptied
-  made : (k : Kind) → Accepted (m .tables) (asked q k)
-      → cleared (itemsBy (m .items) (planAt m q (some k))) (goneOf (tablesAt (m .tables) q (some k)) (lostAt (m .tables) q (some k))) ≡ itemsAfter (m .tables) (m .items) (change (m .tables) (asked q k))
-  unfolding tablesAt planAt lostAt change
-  made k h =
-      ap (λ (l : List ℕ). cleared l (goneOf (tablesBy (m .tables) (q .process) (q .a) (q .b) (q .c) k) (lostBy (m .tables) (q .process) (q .a) (q .b) (q .c) k)))
-      (ap (itemsBy (m .items)) (plan-is m (q .process) (q .a) (q .b) (q .c) k) ∙ moved-made m long (flowBy (m .tables) (q .process) (q .a) (q .b) (q .c) k))
-      ∙ sym (lost-ended m (change (m .tables) (asked q k)) _ (ends (m .tables) lf lg ln (q .process) (q .a) (q .b) (q .c) (fit-process q k (h .fits)) k h))
-
-  tabled-is : (k : Kind) → withItems (withTables m (tablesAt (m .tables) q (some k))) (itemsAfter (m .tables) (m .items) (change (m .tables) (asked q k))) ≡ changed m (change (m .tables) (asked q k))
-  unfolding tablesAt change
-  tabled-is k = refl
-
-  made-by : (o : Option Kind) → firstThat (callTests (m .tables) (callBy o (q .process) (q .a) (q .b) (q .c))) ≡ none → (t v w : Maps) (x : Plan) (lost : ℕ)
-      → t ≡ withTables m (tablesAt (m .tables) q o) → x ≡ planAt m q o → lost ≡ lostAt (m .tables) q o → v ≡ withItems t (itemsBy (t .items) x) → w ≡ withItems v (cleared (v .items) (goneOf (v .tables) lost))
-      → w ≡ mapsBy m (callBy o (q .process) (q .a) (q .b) (q .c)) none
-  unfolding callBy callTests firstThat mapsBy
-  made-by none e t v w x lost et ex el ev ew = absurd (let z : _≡_ {A = ℕ} 0 1 = cc in let y : ⊥ = omega arith in y)
-  made-by (some k) e t v w x lost et ex el ev ew =
-      ew ∙ rw (ev, et, ex, el) (ap (withItems (withTables m (tablesAt (m .tables) q (some k)))) (made k (accepted (m .tables) q k e)) ∙ tabled-is k)
-
-  pub made-call : firstThat (callTests (m .tables) (callIn q)) ≡ none → (t v w : Maps) (x : Plan) (lost : ℕ)
-      → t ≡ withTables m (tablesAt (m .tables) q (kindOf (q .kind))) → x ≡ planAt m q (kindOf (q .kind)) → lost ≡ lostAt (m .tables) q (kindOf (q .kind))
-      → v ≡ withItems t (itemsBy (t .items) x) → w ≡ withItems v (cleared (v .items) (goneOf (v .tables) lost)) → w ≡ mapsBy m (callIn q) none
-  unfolding callFrom
-  made-call e = made-by (kindOf (q .kind)) e
-
-  -- ---- what the plan foresees
-  -- where nothing is given, nobody receives
-  nobody : (v : ℕ) {P : Type 0} → has (0 ∪ 0) v ≡ true → P
-  nobody v h = no-both h (union-has 0 0 v ∙ ap (λ (b : Bool). b || b) (none-has v))
-
   abbrev tablesOf : Kind → Tables
   tablesOf k = tablesBy (m .tables) (q .process) (q .a) (q .b) (q .c) k
 
   abbrev planned : Kind → Plan
   planned k = planBy m (q .process) (q .a) (q .b) (q .c) k
+
+  abbrev gone : Kind → ℕ
+  gone k = goneOf (tablesOf k) (lostBy (m .tables) (q .process) (q .a) (q .b) (q .c) k)
+
+  abbrev emptied : Kind → ℕ
+  emptied k = emptiedBy (m .tables) (q .process) (q .a) (q .b) (q .c) k
+
+  -- the process that exits is gone
+  exit-gone : q .process < 16 → has (gone exit) (containerOf (q .process)) ≡ true
+  unfolding goneOf lostBy tablesBy withLive withLinks withDescriptors
+  exit-gone l =
+      let own = containerOf (q .process) in
+      let dead : used (tablesOf exit) own ≡ false = used-process (tablesOf exit) (q .process) l ∙ without-has (m .tables .live) (q .process) (q .process) (omega arith) ∙ rw (eq-eqb (q .process) (q .process) refl) (and-comm (has (m .tables .live) (q .process)) false) in
+      those-has _ own (omega arith)
+      ∙ rw (dead, union-has (heldBy (m .tables) (q .process)) (only own) own, only-has own own, eq-eqb own own refl) (ap (λ (b : Bool). b && true) (or-r (has (heldBy (m .tables) (q .process)) own) true refl))
+
+  -- what the flow clears is emptied, or gone
+  drops : (k : Kind) → q .process < 16 → (l : List ℕ) → cleared (cleared l (emptied k)) (gone k) ≡ cleared (cleared l (emptiedOf m long (flowBy (m .tables) (q .process) (q .a) (q .b) (q .c) k))) (gone k)
+  unfolding emptiedBy emptiedOf flowBy freeSet
+  drops start h l = refl
+  drops openName h l = refl
+  drops create h l = refl
+  drops pipe h l = refl
+  drops device h l = refl
+  drops dup h l = refl
+  drops close h l = refl
+  drops read h l = refl
+  drops write h l = refl
+  drops mapRead h l = refl
+  drops mapBoth h l = refl
+  drops unmap h l = refl
+  drops unlink h l = refl
+  drops rename h l = refl
+  drops link h l = refl
+  drops fork h l = refl
+  drops label h l = refl
+  drops truncate h l = ap (λ (x : ℕ). cleared (cleared l x) (gone truncate)) (sym (choice (λ (f : Flow). emptiedOf m long f ≡ freeSet (m .tables) (descriptor (m .tables) (q .process) (q .a)) (descriptor (m .tables) (q .process) (q .a))) (isFed (m .tables) (descriptor (m .tables) (q .process) (q .a))) still (clear (descriptor (m .tables) (q .process) (q .a))) (λ e. sym (chosen-l _ 0 _ e)) (λ e. sym (chosen-r _ 0 _ e))))
+  drops exit h l = dropped l (gone exit) (containerOf (q .process)) (exit-gone h)
+
+  -- the items moved, then what is no longer in use emptied
+  made : (k : Kind) → Accepted (m .tables) (asked q k) → cleared (cleared (itemsBy (m .items) (planned k)) (emptied k)) (gone k) ≡ itemsAfter (m .tables) (m .items) (change (m .tables) (asked q k))
+  unfolding change
+  made k h =
+      let p : q .process < 16 = fit-process q k (h .fits) in
+      drops k p (itemsBy (m .items) (planned k))
+      ∙ ap (λ (l : List ℕ). cleared l (gone k)) (ap (λ (x : Plan). cleared (itemsBy (m .items) x) (emptiedOf m long (flowBy (m .tables) (q .process) (q .a) (q .b) (q .c) k))) (plan-is m (q .process) (q .a) (q .b) (q .c) k) ∙ moved-made m long (flowBy (m .tables) (q .process) (q .a) (q .b) (q .c) k))
+      ∙ sym (lost-ended m (change (m .tables) (asked q k)) _ (ends (m .tables) lf lg ln (q .process) (q .a) (q .b) (q .c) p k h))
+
+  finished-by : (o : Option Kind) → firstThat (callTests (m .tables) (callBy o (q .process) (q .a) (q .b) (q .c))) ≡ none
+      → record { tables = tablesAt (m .tables) q o; items = cleared (cleared (itemsBy (m .items) (planAt m q o)) (emptiedAt (m .tables) q o)) (goneOf (tablesAt (m .tables) q o) (lostAt (m .tables) q o)) } ≡ mapsBy m (callBy o (q .process) (q .a) (q .b) (q .c)) none
+  unfolding callBy callTests firstThat mapsBy tablesAt planAt emptiedAt lostAt change
+  finished-by none e = absurd (let z : _≡_ {A = ℕ} 0 1 = cc in let y : ⊥ = omega arith in y)
+  finished-by (some k) e = ap (λ (l : List ℕ). record { tables = tablesOf k; items = l }) (made k (accepted (m .tables) q k e))
+
+  -- gifts and the rest together are the call
+  pub finished-call : firstThat (callTests (m .tables) (callIn q)) ≡ none → finished (givenBy m q) q ≡ mapsBy m (callIn q) none
+  unfolding callFrom givenBy finished
+  finished-call e = finished-by (kindOf (q .kind)) e
+
+  -- ---- what the plan foresees
+  -- where nothing is given, nobody receives
+  nobody : (v : ℕ) {P : Type 0} → has (0 ∪ 0) v ≡ true → P
+  nobody v h = no-both h (union-has 0 0 v ∙ ap (λ (b : Bool). b || b) (none-has v))
 
   fork-stays : q .a < 16 → (v : ℕ) → v < 64 → has (only (containerOf (q .a)) ∪ 0) v ≡ true → has (goneOf (tablesOf fork) (heldBy (m .tables) (q .a))) v ≡ false
   unfolding goneOf tablesBy withLive withLinks withDescriptors
@@ -176,38 +274,37 @@ module _ (m : Maps) (long : length (m .items) ≡ 64) (lf : length (m .tables .f
       let u : used (tablesOf fork) v ≡ true = rw (← (eqb-true (containerOf (q .a)) v e)) (used-process (tablesOf fork) (q .a) l ∙ now-live (m .tables .live) (q .a)) in
       those-has _ v h ∙ rw u (and-comm (has (heldBy (m .tables) (q .a)) v) false)
 
-  stays : (k : Kind) → Accepted (m .tables) (asked q k) → (v : ℕ) → v < 64 → has (planned k .to ∪ planned k .to2) v ≡ true
-      → has (goneOf (tablesOf k) (lostBy (m .tables) (q .process) (q .a) (q .b) (q .c) k)) v ≡ false
-  unfolding planBy planOf flowBy lostBy ranges inRange
-  stays start h v l r = none-gone _ v l
-  stays openName h v l r = none-gone _ v l
-  stays create h v l r = none-gone _ v l
-  stays pipe h v l r = none-gone _ v l
-  stays device h v l r = none-gone _ v l
-  stays dup h v l r = none-gone _ v l
+  stays : (k : Kind) → Accepted (m .tables) (asked q k) → (v : ℕ) → v < 64 → has (planned k .to ∪ planned k .to2) v ≡ true → (has (gone k) v ≡ false) × (has (emptied k) v ≡ false)
+  unfolding planBy planOf flowBy lostBy emptiedBy ranges inRange
+  stays start h v l r = nobody v r
+  stays openName h v l r = nobody v r
+  stays create h v l r = nobody v r
+  stays pipe h v l r = nobody v r
+  stays device h v l r = nobody v r
+  stays dup h v l r = nobody v r
   stays close h v l r = nobody v r
-  stays read h v l r = none-gone _ v l
-  stays write h v l r = none-gone _ v l
-  stays truncate h v l r = none-gone _ v l
-  stays mapRead h v l r = none-gone _ v l
-  stays mapBoth h v l r = none-gone _ v l
+  stays read h v l r = (none-gone _ v l, none-has v)
+  stays write h v l r = (none-gone _ v l, none-has v)
+  stays truncate h v l r = nobody v r
+  stays mapRead h v l r = (none-gone _ v l, none-has v)
+  stays mapBoth h v l r = (none-gone _ v l, none-has v)
   stays unmap h v l r = nobody v r
   stays unlink h v l r = nobody v r
   stays rename h v l r = nobody v r
-  stays link h v l r = none-gone _ v l
-  stays fork h v l r = fork-stays (ltb-true (q .a) 16 (fits-a (ranges fork) (asked q fork) (h .fits))) v l r
+  stays link h v l r = nobody v r
+  stays fork h v l r = (fork-stays (ltb-true (q .a) 16 (fits-a (ranges fork) (asked q fork) (h .fits))) v l r, none-has v)
   stays exit h v l r = nobody v r
-  stays label h v l r = none-gone _ v l
+  stays label h v l r = (none-gone _ v l, none-has v)
 
   foreseen-by : (k : Kind) → Accepted (m .tables) (asked q k) → Foreseen (m .items) (itemsAfter (m .tables) (m .items) (change (m .tables) (asked q k))) (planned k)
-  unfolding planAt tablesAt lostAt cleared
+  unfolding cleared
   foreseen-by k h =
-      let gone : ℕ = goneOf (tablesOf k) (lostBy (m .tables) (q .process) (q .a) (q .b) (q .c) k) in
-      let at : (v : ℕ) → v < 64 → getD (itemsAfter (m .tables) (m .items) (change (m .tables) (asked q k))) v 0 ≡ elim (has gone v) as (λ z. ℕ) [ true ↦ 0 | false ↦ getD (itemsBy (m .items) (planned k)) v 0 ] =
-      λ v l. ap (λ (x : List ℕ). getD x v 0) (sym (made k h)) ∙ table-at 64 _ v 0 l in
+      let y : ℕ → ℕ = λ v. getD (itemsBy (m .items) (planned k)) v 0 in
+      let at : (v : ℕ) → v < 64 → getD (itemsAfter (m .tables) (m .items) (change (m .tables) (asked q k))) v 0 ≡ unless (has (gone k) v) (unless (has (emptied k) v) (y v)) =
+      λ v l. ap (λ (x : List ℕ). getD x v 0) (sym (made k h)) ∙ table-at 64 _ v 0 l ∙ ap (unless (has (gone k) v)) (table-at 64 _ v 0 l) in
       record {
-        less = λ v i l e. choice (λ x. has x i ≡ true → has (getD (itemsBy (m .items) (planned k)) v 0) i ≡ true) (has gone v) 0 _ (λ z f. no-both f (none-has i)) (λ z f. f) (ap (λ (x : ℕ). has x i) (sym (at v l)) ∙ e);
-        same = λ v l r. at v l ∙ chosen-r (has gone v) 0 _ (stays k h v l r);
+        less = λ v i l e. unless-less (has (emptied k) v) (y v) i (unless-less (has (gone k) v) _ i (ap (λ (x : ℕ). has x i) (sym (at v l)) ∙ e));
+        same = λ v l r. let s = stays k h v l r in at v l ∙ chosen-r (has (gone k) v) 0 _ (s .0) ∙ chosen-r (has (emptied k) v) 0 _ (s .1);
       }
 
   foreseen-at : (o : Option Kind) (x : Asked) → callBy o (q .process) (q .a) (q .b) (q .c) ≡ some x → firstThat (callTests (m .tables) (callBy o (q .process) (q .a) (q .b) (q .c))) ≡ none
@@ -227,11 +324,11 @@ module _ (m : Maps) (long : length (m .items) ≡ 64) (lf : length (m .tables .f
 -- a gift alone, where the tables stay, is its plan (01, What a record gets: a diverted write)
 pub gift-made : (m : Maps) → length (m .items) ≡ 64 → (g u : ℕ)
     → itemsAfter (m .tables) (m .items) (record { tables = m .tables; flow = gift g u }) ≡ itemsBy (m .items) (gives (getD (m .items) g 0) (reach (m .tables) u))
-unfolding planOf cleared
+unfolding planOf cleared emptiedOf
 gift-made m long g u =
     lost-ended m (record { tables = m .tables; flow = gift g u }) 0 (record { before = λ v hv h. no-both h (none-has v); kept = λ v hv h z. z })
     ∙ sym (is-table 64 _ (moved (m .tables) (m .items) (gift g u)) (moved-length m long (gift g u)) (λ c h. sym (chosen-r (has (goneOf (m .tables) 0) c) 0 _ (none-gone (m .tables) c h))))
-    ∙ sym (moved-made m long (gift g u))
+    ∙ sym (moved-made m long (gift g u)) ∙ kept (itemsBy (m .items) (planOf m (gift g u))) (by-length _ _)
 
 -- ---- what `work` answers
 by-number : (m : Maps) (q : Option Asked) (n : ℕ) (o : Option ℕ) → refusalFrom n ≡ o → (n ≡ 0 → ⊥) → m ≡ mapsBy m q o

@@ -1,6 +1,6 @@
--- What a call makes of the items: what it moves, as a plan, and what it may end the use of.
+-- What a call makes of the items: what it gives, as a plan, what it empties, and what it may end the use of.
 use Prim.Native.Nat.{ℕ}
-use mathlib.Core.Bool.{true, false, not, _&&_}
+use mathlib.Core.Bool.{Bool, true, false, not, _&&_}
 use mathlib.Core.Option.{Option, none, some}
 use lib.ListN.{getD}
 use Rattle.sets.specs.Sets.{has, only, those, _∪_, _∩_}
@@ -15,26 +15,22 @@ use Rattle.tracker.specs.declared.Call.{Call}
 abbrev pub plan : ℕ → ℕ → ℕ → ℕ → ℕ → Plan
 plan e x r y t = record { empty = e; given = x; to = r; given2 = y; to2 = t }
 
-abbrev pub empties : ℕ → Plan
-empties x = plan x 0 0 0 0
+abbrev pub nothing : Plan
+nothing = plan 0 0 0 0 0
 
 abbrev pub gives : ℕ → ℕ → Plan
 gives x r = plan 0 x r 0 0
 
--- a flow as a plan
+-- what a flow gives; a copy empties its receiver first
 unfoldable pub planOf : Maps → Flow → Plan
-planOf m still = empties 0
+planOf m still = nothing
 planOf m (gift g u) = gives (getD (m .items) g 0) (reach (m .tables) u)
 planOf m (arrival u i) = gives (only i) (reach (m .tables) u)
 planOf m (exchange a b) = plan 0 (getD (m .items) a 0) (reach (m .tables) b) (getD (m .items) b 0) (reach (m .tables) a)
 planOf m (copy a b) = plan (only b) (getD (m .items) a 0) (only b) 0 0
-planOf m (clear u) = empties (only u)
+planOf m (clear u) = nothing
 
--- the set of v where no link leads into c
-unfoldable pub freeSet : Tables → ℕ → ℕ → ℕ
-freeSet t c v = elim (isFed t c) [ true ↦ 0 | false ↦ only v ]
-
--- a truncation, whose flow goes by a test, has it in the set
+-- a truncation's flow goes by a test, and gives nothing either way
 unfoldable pub planBy : Maps → ℕ → ℕ → ℕ → ℕ → Kind → Plan
 planBy m p a b c start = planOf m (flowBy (m .tables) p a b c start)
 planBy m p a b c openName = planOf m (flowBy (m .tables) p a b c openName)
@@ -45,7 +41,7 @@ planBy m p a b c dup = planOf m (flowBy (m .tables) p a b c dup)
 planBy m p a b c close = planOf m (flowBy (m .tables) p a b c close)
 planBy m p a b c read = planOf m (flowBy (m .tables) p a b c read)
 planBy m p a b c write = planOf m (flowBy (m .tables) p a b c write)
-planBy m p a b c truncate = empties (freeSet (m .tables) (descriptor (m .tables) p a) (descriptor (m .tables) p a))
+planBy m p a b c truncate = nothing
 planBy m p a b c mapRead = planOf m (flowBy (m .tables) p a b c mapRead)
 planBy m p a b c mapBoth = planOf m (flowBy (m .tables) p a b c mapBoth)
 planBy m p a b c unmap = planOf m (flowBy (m .tables) p a b c unmap)
@@ -57,8 +53,65 @@ planBy m p a b c exit = planOf m (flowBy (m .tables) p a b c exit)
 planBy m p a b c label = planOf m (flowBy (m .tables) p a b c label)
 
 unfoldable pub planAt : Maps → Call → Option Kind → Plan
-planAt m q none = empties 0
+planAt m q none = nothing
 planAt m q (some k) = planBy m (q .process) (q .a) (q .b) (q .c) k
+
+-- the kinds that can give something
+unfoldable pub givesBy : Kind → Bool
+givesBy start = false
+givesBy openName = false
+givesBy create = false
+givesBy pipe = false
+givesBy device = false
+givesBy dup = false
+givesBy close = false
+givesBy read = true
+givesBy write = true
+givesBy truncate = false
+givesBy mapRead = true
+givesBy mapBoth = true
+givesBy unmap = false
+givesBy unlink = false
+givesBy rename = false
+givesBy link = false
+givesBy fork = true
+givesBy exit = false
+givesBy label = true
+
+unfoldable pub givesAt : Option Kind → Bool
+givesAt none = false
+givesAt (some k) = givesBy k
+
+-- ---- what is emptied
+-- the set of v where no link leads into c
+unfoldable pub freeSet : Tables → ℕ → ℕ → ℕ
+freeSet t c v = elim (isFed t c) [ true ↦ 0 | false ↦ only v ]
+
+-- the containers that a call empties; the process of an exit is among those whose use it ends
+unfoldable pub emptiedBy : Tables → ℕ → ℕ → ℕ → ℕ → Kind → ℕ
+emptiedBy t p a b c start = only (containerOf p)
+emptiedBy t p a b c openName = 0
+emptiedBy t p a b c create = only c
+emptiedBy t p a b c pipe = only c
+emptiedBy t p a b c device = 0
+emptiedBy t p a b c dup = 0
+emptiedBy t p a b c close = 0
+emptiedBy t p a b c read = 0
+emptiedBy t p a b c write = 0
+emptiedBy t p a b c truncate = freeSet t (descriptor t p a) (descriptor t p a)
+emptiedBy t p a b c mapRead = 0
+emptiedBy t p a b c mapBoth = 0
+emptiedBy t p a b c unmap = 0
+emptiedBy t p a b c unlink = 0
+emptiedBy t p a b c rename = 0
+emptiedBy t p a b c link = 0
+emptiedBy t p a b c fork = 0
+emptiedBy t p a b c exit = 0
+emptiedBy t p a b c label = 0
+
+unfoldable pub emptiedAt : Tables → Call → Option Kind → ℕ
+emptiedAt t q none = 0
+emptiedAt t q (some k) = emptiedBy t (q .process) (q .a) (q .b) (q .c) k
 
 -- ---- uses that may end
 -- the files and pipes that process q leads to or maps

@@ -11,8 +11,25 @@ use Rattle.flow.specs.Box.{containerCount}
 use Rattle.flow.specs.Calls.{Call, change}
 use Rattle.flow.specs.Refusals.{callTests}
 use Rattle.store.specs.declared.Plan.{Plan}
-use Rattle.store.specs.Maps.{Maps, changed, itemsBy}
+use Rattle.flow.specs.Records.{kindOf}
+use Rattle.store.specs.Maps.{Maps, withItems, changed, cleared, itemsBy}
+use Rattle.tracker.specs.declared.Call.{Call as Bytes}
+use Rattle.tracker.specs.Rows.{tablesAt}
+use Rattle.tracker.specs.Plans.{planAt, emptiedAt, lostAt, goneOf}
 
+-- ---- the two parts of a call's change
+-- the maps once its gifts are made
+unfoldable pub given : Maps → Bytes → Maps
+given m q = withItems m (itemsBy (m .items) (planAt m q (kindOf (q .kind))))
+
+-- the maps once the tables are changed, and what the call empties and what it ends the use of is emptied
+unfoldable pub finished : Maps → Bytes → Maps
+finished m q =
+    let k = kindOf (q .kind) in
+    let t = tablesAt (m .tables) q k in
+    record { tables = t; items = cleared (cleared (m .items) (emptiedAt (m .tables) q k)) (goneOf t (lostAt (m .tables) q k)) }
+
+-- ---- the whole call
 pub record Worked : Type 0 where
   pub refusal : Option ℕ
   pub maps : Maps

@@ -1,39 +1,43 @@
-// A call: refused, or planned and made.
+// A call: refused, or made.
 use crate::Call;
-use crate::plan;
+use crate::plan::gives;
+use crate::plan::plan_of;
+use crate::release::emptied_by;
 use crate::release::lost_by;
 use crate::release::release;
-use crate::rows;
+use crate::rows::refusal;
 use crate::tables::change_tables;
-use store::Plan;
+use store::cells::empty_items;
 use store::cells::make_items;
 use store::sizes;
-ghost use Prim.Native.Nat.{ℕ};
 ghost use mathlib.Core.Path.{_≡_};
-ghost use mathlib.Core.Option.{none};
-ghost use Rattle.flow.specs.Lists.{firstThat, refusalFrom};
-ghost use Rattle.flow.specs.Records.{kindOf};
-ghost use Rattle.flow.specs.Refusals.{callTests};
-ghost use Rattle.store.specs.Maps.{view, mapsBefore, mapsAfter};
+ghost use Rattle.flow.specs.Lists.{refusalFrom};
+ghost use Rattle.store.specs.Maps.{mapsBefore, mapsAfter};
 ghost use Rattle.tracker.specs.Rows.{callIn, Passes};
-ghost use Rattle.tracker.specs.Plans.{planAt};
-ghost use Rattle.tracker.specs.Worked.{done, worked, mapsBy};
+ghost use Rattle.tracker.specs.Worked.{done, worked, given, finished};
 
-// Stores what a call that is not refused makes of the tables and, by its plan, of the items.
-pub fn make(
-    words: &mut [u64; 97],
-    descriptors: &mut [u8; 512],
-    names: &mut [u8; 128],
-    q: Call,
-    plan: Plan,
-)
-    requires { ⌜ Passes (now words) (now descriptors) (now names) q × (plan ≡ planAt (view (now words) (now descriptors) (now names)) q (kindOf (q .kind))) ⌝ }
-    ensures { λ _. ⌜ (let m = mapsBefore words descriptors names in mapsAfter words descriptors names ≡ mapsBy m (callIn q) none) ⌝ }
+// Makes what a call that is not refused gives.
+fn give(words: &mut [u64; 97], descriptors: &[u8; 512], names: &[u8; 128], q: Call)
+    requires { ⌜ Passes (now words) (now descriptors) (now names) q ⌝ }
+    ensures { λ _. ⌜ (let m = mapsBefore words descriptors names in mapsAfter words descriptors names ≡ given m q) ⌝ }
 {
     sizes(words, names);
-    let lost = lost_by(words, descriptors, names, q);
-    change_tables(words, descriptors, names, q);
+    if !gives(q.kind) {
+        return;
+    }
+    let plan = plan_of(words, descriptors, names, q);
     make_items(words, plan);
+}
+
+// Makes the rest of a call that is not refused, once its gifts are made: tables, what it empties, what it ends the use of.
+pub fn finish(words: &mut [u64; 97], descriptors: &mut [u8; 512], names: &mut [u8; 128], q: Call)
+    requires { ⌜ Passes (now words) (now descriptors) (now names) q ⌝ }
+    ensures { λ _. ⌜ mapsAfter words descriptors names ≡ finished (mapsBefore words descriptors names) q ⌝ }
+{
+    let lost = lost_by(words, descriptors, names, q);
+    let emptied = emptied_by(words, descriptors, names, q);
+    change_tables(words, descriptors, names, q);
+    empty_items(words, emptied);
     release(words, descriptors, names, lost);
 }
 
@@ -46,11 +50,12 @@ pub fn work(
 ) -> u8
     ensures { λ r. ⌜ done (refusalFrom r) (mapsAfter words descriptors names) ≡ worked (mapsBefore words descriptors names) (callIn q) ⌝ }
 {
-    let n = rows::refusal(words, descriptors, names, q);
+    sizes(words, names);
+    let n = refusal(words, descriptors, names, q);
     if n != 0 {
         return n;
     }
-    let plan = plan::plan_of(words, descriptors, names, q);
-    make(words, descriptors, names, q, plan);
+    give(words, descriptors, names, q);
+    finish(words, descriptors, names, q);
     0
 }

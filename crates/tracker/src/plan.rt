@@ -1,46 +1,32 @@
-// How a call moves items, as a plan, worked out before anything is stored.
+// What a call gives, as a plan, worked out before anything is stored.
 use crate::Call;
 use store::Plan;
 use store::lookups::descriptor;
-use store::lookups::is_fed;
 use store::lookups::items;
 use store::numbers::Container;
 use store::numbers::Descriptor;
 use store::numbers::Process;
 use store::spread::reach;
-ghost use Prim.Native.Nat.{ℕ, _%_};
 ghost use mathlib.Core.Path.{_≡_};
-ghost use mathlib.Core.List.{List};
 ghost use Rattle.flow.specs.Records.{kindOf};
-ghost use Rattle.store.specs.Maps.{view, mapsBefore};
+ghost use Rattle.store.specs.Maps.{mapsBefore};
 ghost use Rattle.tracker.specs.Rows.{Passes};
-ghost use Rattle.tracker.specs.Plans.{planAt, empties, gives, freeSet};
+ghost use Rattle.tracker.specs.Plans.{planAt, gives as givesTo, givesAt};
 
-// The set of c alone, where no link leads into c.
-fn free_set(words: &[u64; 97], c: u8) -> u64
-    ensures { λ r. ⌜ ((d n : List ℕ) → r ≡ freeSet (view (now (words .entry)) d n .tables) c (c % 64)) ⌝ }
+// Whether calls of this kind can give an item to a container.
+pub fn gives(kind: u8) -> bool
+    ensures { λ r. ⌜ r ≡ givesAt (kindOf kind) ⌝ }
 {
-    if is_fed(words, Container(c)) {
-        return 0;
-    }
-    sets::with(0, c)
-}
-
-fn emptying(x: u64) -> Plan
-    ensures { λ r. ⌜ r ≡ empties x ⌝ }
-{
-    Plan {
-        empty: x,
-        given: 0,
-        to: 0,
-        given2: 0,
-        to2: 0,
+    match kind {
+        8 | 11 | 17 | 19 => true,
+        9 | 12 => true,
+        _ => false,
     }
 }
 
 // The items x given to the set r.
 pub fn giving(x: u64, r: u64) -> Plan
-    ensures { λ z. ⌜ z ≡ gives x r ⌝ }
+    ensures { λ z. ⌜ z ≡ givesTo x r ⌝ }
 {
     Plan {
         empty: 0,
@@ -60,11 +46,7 @@ pub fn plan_of(words: &[u64; 97], descriptors: &[u8; 512], names: &[u8; 128], q:
     let p = q.process;
     let a = q.a;
     let b = q.b;
-    let c = q.c;
     match kind {
-        1 | 18 => emptying(sets::with(0, 8 + p)),
-        3 => emptying(sets::with(0, c)),
-        4 => emptying(sets::with(0, c)),
         8 | 11 => {
             let to = descriptor(descriptors, Process(p), Descriptor(a));
             let own = 8 + p;
@@ -75,7 +57,6 @@ pub fn plan_of(words: &[u64; 97], descriptors: &[u8; 512], names: &[u8; 128], q:
             let own = 8 + p;
             giving(items(words, Container(own)), reach(words, Container(to)))
         }
-        10 => emptying(free_set(words, descriptor(descriptors, Process(p), Descriptor(a)))),
         12 => {
             let to = descriptor(descriptors, Process(p), Descriptor(a));
             let own = 8 + p;
@@ -99,6 +80,6 @@ pub fn plan_of(words: &[u64; 97], descriptors: &[u8; 512], names: &[u8; 128], q:
             }
         }
         19 => giving(sets::with(0, b), reach(words, Container(a))),
-        _ => emptying(0),
+        _ => giving(0, 0),
     }
 }

@@ -1,4 +1,4 @@
-// What is no longer in use is emptied, in the call that ends its use (document 01, The box).
+// What a call empties (document 01, The records), and what it ends the use of, which is emptied in the same call (The box).
 use crate::Call;
 use store::blocks::FILES;
 use store::blocks::block_files;
@@ -8,6 +8,7 @@ use store::lookups::descriptor;
 use store::lookups::fed;
 use store::lookups::feeders;
 use store::lookups::in_use;
+use store::lookups::is_fed;
 use store::lookups::name;
 use store::numbers::Container;
 use store::numbers::Descriptor;
@@ -19,7 +20,7 @@ ghost use mathlib.Core.List.{List};
 ghost use Rattle.flow.specs.Records.{kindOf};
 ghost use Rattle.store.specs.Maps.{view, withItems, cleared, mapsBefore, mapsAfter};
 ghost use Rattle.tracker.specs.Rows.{Passes};
-ghost use Rattle.tracker.specs.Plans.{heldBy, lostAt, unusedSet, goneOf};
+ghost use Rattle.tracker.specs.Plans.{heldBy, lostAt, freeSet, emptiedAt, unusedSet, goneOf};
 
 // The files and pipes that process p leads to or maps.
 fn held_by(words: &[u64; 97], descriptors: &[u8; 512], p: u8) -> u64
@@ -50,6 +51,34 @@ pub fn lost_by(words: &[u64; 97], descriptors: &[u8; 512], names: &[u8; 128], q:
     }
 }
 
+// The set of c alone, where no link leads into c.
+fn free_set(words: &[u64; 97], c: u8) -> u64
+    ensures { λ r. ⌜ ((d n : List ℕ) → r ≡ freeSet (view (now (words .entry)) d n .tables) c (c % 64)) ⌝ }
+{
+    if is_fed(words, Container(c)) {
+        return 0;
+    }
+    sets::with(0, c)
+}
+
+// The containers that a call that is not refused empties, whatever their use. An exit's process is among the lost.
+pub fn emptied_by(words: &[u64; 97], descriptors: &[u8; 512], names: &[u8; 128], q: Call) -> u64
+    requires { ⌜ Passes (now words) (now descriptors) (now names) q ⌝ }
+    ensures { λ r. ⌜ r ≡ emptiedAt (mapsBefore words descriptors names .tables) q (kindOf (q .kind)) ⌝ }
+{
+    let kind = q.kind;
+    let p = q.process;
+    let a = q.a;
+    let c = q.c;
+    match kind {
+        1 => sets::with(0, 8 + p),
+        3 => sets::with(0, c),
+        4 => sets::with(0, c),
+        10 => free_set(words, descriptor(descriptors, Process(p), Descriptor(a))),
+        _ => 0,
+    }
+}
+
 // The set of v alone, where v is not in use.
 fn unused_set(words: &[u64; 97], descriptors: &[u8; 512], names: &[u8; 128], v: u8) -> u64
     ensures { λ r. ⌜ r ≡ unusedSet (mapsBefore words descriptors names .tables) v (v % 64) ⌝ }
@@ -64,8 +93,13 @@ fn unused_set(words: &[u64; 97], descriptors: &[u8; 512], names: &[u8; 128], v: 
 fn gone(words: &[u64; 97], descriptors: &[u8; 512], names: &[u8; 128], lost: u64) -> u64
     ensures { λ r. ⌜ r ≡ goneOf (mapsBefore words descriptors names .tables) lost ⌝ }
 {
-    let mut found = 0u64;
-    let mut left = lost;
+    if lost == 0 {
+        return 0;
+    }
+    // Most calls lose one at most.
+    let first = sets::lowest(lost) as u8;
+    let mut found = unused_set(words, descriptors, names, first);
+    let mut left = sets::without(lost, first);
     while left != 0 {
         let v = sets::lowest(left) as u8;
         found = found | unused_set(words, descriptors, names, v);

@@ -1,33 +1,47 @@
--- `work` refuses, or plans and makes.
-use mathlib.Core.Path.{_≡_}
-use Rattle.tracker.proofs.Joined.{refused, passes, worked-out}
+-- `work` refuses, or gives and finishes.
+use native.Mathlib.Omega.{arith}
+use mathlib.Core.Path.{_≡_, ap, _∙_}
+use lib.ListN.{length}
+use Rattle.store.specs.Maps.{Maps, view, part}
+use Rattle.store.proofs.Parts.{part-length}
+use Rattle.tracker.specs.Rows.{Passes}
+use Rattle.tracker.specs.Worked.{finished}
+use Rattle.tracker.proofs.Joined.{refused, passes, still-passes, finished-call, worked-out}
 use borrow.Author.Needs.{needs}
 use Rattle.tracker.proofs.calls.work.Statement.{statement}
 use Rattle.tracker.proofs.calls.work.Tie as tie
 
+long : (c : tie.After-sizes) → length (c .before .before .before .before .before .args .words .now) ≡ 97
+long c = search needs
+
+named : (c : tie.After-sizes) → length (c .before .before .before .before .before .args .names .now) ≡ 128
+named c = search needs
+
 returns : tie.Need-returns
-returns c =
-    let c1 = c .before in
-    refused _ _ _ (c1 .refusal .ensures) (c .if1 .taken)
+returns c = refused _ _ _ (c .before .refusal .ensures) (c .if1 .taken)
 
-plan-of-requires : tie.Need-plan-of-requires
-plan-of-requires c κs =
-    let c3 = c .before .before .before in
-    let c4 = c3 .before in
-    record { none-holds = passes _ _ (c4 .refusal .ensures) (c3 .if1 .left) }
+-- the call passes
+passing : (c : tie.Else1) → (let s = c .before .before .before .before .before .before .before .before .before .before in Passes (s .args .words .now) (s .args .descriptors .now) (s .args .names .now) (s .args .q))
+passing c = record { none-holds = passes _ _ (c .before .refusal .ensures) (c .if1 .left) }
 
-make-requires : tie.Need-make-requires
-make-requires c κs =
-    let c3 = c .before .before .before in
-    let c7 = c3 .before .before .before .before in
-    let c8 = c7 .before in
-    (record { none-holds = passes _ _ (c8 .refusal .ensures) (c7 .if1 .left) }, c3 .plan-of .ensures)
+give-requires : tie.Need-give-requires
+give-requires c κs = passing (c .before .before .before)
+
+finish-requires : tie.Need-finish-requires
+finish-requires c κs = let c3 = c .before .before .before in still-passes _ _ _ _ _ (passing (c3 .before .before .before .before)) (c3 .give .ensures)
 
 returns-2 : tie.Need-returns-2
+unfolding view
 returns-2 c =
-    let c8 = c .before .before .before .before .before .before .before .before in
-    let c9 = c8 .before in
-    worked-out _ _ _ (passes _ _ (c9 .refusal .ensures) (c8 .if1 .left)) (c .make .ensures)
+    let c4 = c .before .before .before .before in
+    let c8 = c4 .before .before .before .before in
+    let c13 = c8 .before .before .before .before .before in
+    let a = c13 .before .before .before .before .before .args in
+    let w = a .words .now in
+    let l : length w ≡ 97 = long c13 in
+    let h = passing c8 .none-holds in
+    worked-out _ _ _ h (c .finish .ensures ∙ ap (λ (m : Maps). finished m (a .q)) (c4 .give .ensures)
+    ∙ finished-call (view w (a .descriptors .now) (a .names .now)) (part-length 1 64 w (omega arith)) (part-length 65 16 w (omega arith)) (part-length 81 16 w (omega arith)) (named c13) (a .q) h)
 
 pub work-spec : {M : Type 1} → statement M
-work-spec = tie.close (tie.spec (λ c κs. search needs) returns plan-of-requires make-requires returns-2)
+work-spec = tie.close (tie.spec (λ c κs. search needs) (λ c κs. search needs) returns give-requires finish-requires returns-2)

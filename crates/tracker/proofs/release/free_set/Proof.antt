@@ -3,8 +3,8 @@ use mathlib.Core.Path.{sym, _∙_}
 use Rattle.sets.specs.Sets.{_∪_}
 use Rattle.tracker.proofs.Finding.{free-none, free-one}
 use borrow.Author.Needs.{needs}
-use Rattle.tracker.proofs.plan.free_set.Statement.{statement}
-use Rattle.tracker.proofs.plan.free_set.Tie as tie
+use Rattle.tracker.proofs.release.free_set.Statement.{statement}
+use Rattle.tracker.proofs.release.free_set.Tie as tie
 
 returns : tie.Need-returns
 returns c =
