@@ -49,14 +49,14 @@ module _ (t : Tables) (p : ℕ) (hp : p < 16) where
   link-out v h = or-r (isProcess v && has (feedersOf t (v - 8)) (containerOf p)) _ (and-i (isProcess (containerOf p)) _ (container-process p hp) (rw (container-number p) h))
 
 -- ---- sets with a common member
-meets-of : (x y i : ℕ) → has x i ≡ true → has y i ≡ true → meets x y ≡ true
+pub meets-of : (x y i : ℕ) → has x i ≡ true → has y i ≡ true → meets x y ≡ true
 unfolding meets
 meets-of x y i h k =
     by (eqb (x ∩ y) 0)
     (λ e. no-both (inter-has x y i ∙ and-i (has x i) _ h k) (ap (λ (z : ℕ). has z i) (eqb-true (x ∩ y) 0 e) ∙ none-has i))
     (λ e. ap not e)
 
-meets-at : (x y : ℕ) → meets x y ≡ true → (i : ℕ) × (has x i ≡ true) × (has y i ≡ true)
+pub meets-at : (x y : ℕ) → meets x y ≡ true → (i : ℕ) × (has x i ≡ true) × (has y i ≡ true)
 unfolding meets
 meets-at x y h = go (eqb (x ∩ y) 0) refl h
   where
