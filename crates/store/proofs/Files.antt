@@ -9,14 +9,15 @@ use mathlib.Core.List.{List, [], _∷_}
 use lib.Dec.{ltb, leb, eqb}
 use lib.ListN.{length, getD, take}
 use borrow.Author.Tests.{ltb-true, leb-true, eqb-true, eq-eqb, ne-eqb}
-use Rattle.sets.specs.Sets.{has, only, bit, thoseFrom, those, without, _∪_, lowest}
+use Rattle.sets.specs.Sets.{has, only, bit, thoseFrom, those, without, _∪_, lowest, unionOf}
 use Rattle.sets.proofs.Members.{union-has, only-has, none-has, those-has, those-lt, union-lt, only-lt, set-ext, eqb-sym, without-lt}
+use Rattle.sets.proofs.Unions.{all-more, union-assoc, union-comm}
 use Rattle.flow.specs.Lists.{isIn}
 use Rattle.flow.specs.Box.{isFile, Tables, feeds}
 use Rattle.flow.specs.Links.{isFed}
 use Rattle.flow.proofs.Bools.{and-l, and-r, by, no-both, chosen-l, chosen-r}
-use Rattle.store.proofs.Use.{all-more, union-assoc, union-comm, unionOf-has, isIn-cons}
-use Rattle.store.specs.Maps.{unionOf, fileSet, filesIn, files}
+use Rattle.store.proofs.Use.{unionOf-has, isIn-cons}
+use Rattle.store.specs.Maps.{fileSet, filesIn, files}
 
 -- ---- the files and pipes of a list
 pub file-range : (c : ℕ) → isFile c ≡ true → (24 ≤ c) × (c < 64)

@@ -13,29 +13,14 @@ use lib.Pow.{pow-mono, shl-shr, shr-shr}
 use lib.Seq.{take-length}
 use mir.Val.{boolByte}
 use borrow.Author.Tests.{ltb-true, ltb-false, leb-true, eqb-true, ne-eqb, lt-ltb, le-ltb, le-leb, lt-leb}
-use Rattle.sets.specs.Sets.{has, only, thoseFrom, bit, those, _∪_, _∩_}
-use Rattle.sets.proofs.Members.{union-has, inter-has, only-has, none-has, those-has, those-lt, union-lt, only-lt, same-members, set-ext, eqb-sym}
+use Rattle.sets.specs.Sets.{has, _∪_, unionOf}
+use Rattle.sets.proofs.Members.{union-has, none-has, eqb-sym}
+use Rattle.sets.proofs.Unions.{all-more, unionOf-more}
 use Rattle.flow.specs.Lists.{someBelow, isIn}
 use Rattle.flow.specs.Box.{isDevice, isProcess, isFile, Tables, isLive, feedersOf, feeds}
 use Rattle.flow.specs.Links.{mapped, used}
 use Rattle.flow.proofs.Bools.{and-l, and-r, and-i, by, no-both, chosen-l, chosen-r}
 use Rattle.flow.proofs.Reach.{is-process}
-use Rattle.store.specs.Maps.{unionOf}
-
--- what joins all elements, over one element more
-module _ {B : Type 0} (all : List ℕ → B) (join : B → B → B) (one : ℕ → B)
-    (cons : (x : ℕ) (l : List ℕ) → all (x ∷ l) ≡ join (one x) (all l))
-    (assoc : (x y z : B) → join (join x y) z ≡ join x (join y z))
-    (comm : (x y : B) → join x y ≡ join y x) where
-  all-suc : (l : List ℕ) (i : ℕ) → i < length l → all (take (suc i) l) ≡ join (all (take i l)) (one (getD l i 0))
-  all-suc [] i h = absurd (not-suc-le-zero h)
-  all-suc (x ∷ l) zero h = cons x [] ∙ comm (one x) (all [])
-  all-suc (x ∷ l) (suc i) h =
-      cons x (take (suc i) l) ∙ ap (join (one x)) (all-suc l i (le-of-suc-le-suc h))
-      ∙ sym (assoc (one x) (all (take i l)) (one (getD l i 0))) ∙ ap (λ (b : B). join b (one (getD l i 0))) (sym (cons x (take i l)))
-
-  pub all-more : (l : List ℕ) (i : ℕ) → i < length l → all (take (i + 1) l) ≡ join (all (take i l)) (one (getD l i 0))
-  all-more l i h = rw (add-one i) (all-suc l i h)
 
 -- ---- what stands in a list
 or-choice : (b c : Bool) → _≡_ {A = Bool} (elim b as (λ z. Bool) [ true ↦ true | false ↦ c ]) (b || c)
@@ -63,36 +48,6 @@ isIn-byte c l i h = rw (isIn-more c l i h, eqb-sym c) (bytes-or (isIn c (take i 
 pub byte-test : (a : Bool) → not (eqb (boolByte a) 0) ≡ a
 byte-test true = refl
 byte-test false = refl
-
--- ---- unions
-lt-pow : (x : ℕ) → x < 2 ^ x
-lt-pow zero = omega arith
-lt-pow (suc x) = omega (arith, lt-pow x)
-
-lt-pow-of : (x n : ℕ) → x ≤ n → x < 2 ^ n
-lt-pow-of x n h = omega (arith, lt-pow x, pow-mono h)
-
-pub union-assoc : (x y z : ℕ) → (x ∪ y) ∪ z ≡ x ∪ (y ∪ z)
-unfolding _∪_
-union-assoc x y z =
-    let n : ℕ = x + y + z in
-    let hx : x < 2 ^ n = lt-pow-of x n (omega arith) in
-    let hy : y < 2 ^ n = lt-pow-of y n (omega arith) in
-    let hz : z < 2 ^ n = lt-pow-of z n (omega arith) in
-    same-members n ((x ∪ y) ∪ z) (x ∪ (y ∪ z)) (or-lt n _ z (or-lt n x y hx hy) hz) (or-lt n x _ hx (or-lt n y z hy hz))
-    (λ i h. simp union-has (or-assoc (has x i) (has y i) (has z i)))
-
-pub union-comm : (x y : ℕ) → x ∪ y ≡ y ∪ x
-unfolding _∪_
-union-comm x y = bits-comm x y
-
-pub union-none : (x : ℕ) → x ∪ 0 ≡ x
-unfolding _∪_
-union-none x = bits-comm x 0 ∙ or-zero-l x
-
-pub unionOf-more : (l : List ℕ) (i : ℕ) → i < length l → unionOf (take (i + 1) l) ≡ unionOf (take i l) ∪ getD l i 0
-unfolding unionOf
-unionOf-more = all-more unionOf _∪_ (λ x. x) (λ x l. refl) union-assoc union-comm
 
 -- f holds of some number below n + 1 where it holds of n or of some number below n
 pub some-more : (n : ℕ) (f : ℕ → Bool) → someBelow (suc n) f ≡ (f n || someBelow n f)

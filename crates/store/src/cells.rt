@@ -1,10 +1,10 @@
 // Stores: of the live processes, of one process's links, of one entry, and of items.
 use crate::Plan;
+use crate::gifts::empty;
+use crate::gifts::give;
 use crate::numbers::Descriptor;
 use crate::numbers::Name;
 use crate::numbers::Process;
-use crate::spread::empty;
-use crate::spread::give;
 ghost use Prim.Native.Nat.{ℕ, _<_};
 ghost use mathlib.Core.Path.{_≡_};
 ghost use mathlib.Core.List.{List};

@@ -4,8 +4,8 @@ use native.Mathlib.Omega.{arith}
 use Rattle.sets.specs.Sets.{count}
 use Rattle.store.proofs.Worklist.{turn-below, turn-fewer, Working, working-start, working-more, working-end, cleared-mapped}
 use borrow.Author.Needs.{needs}
-use Rattle.store.proofs.spread.empty.Statement.{statement}
-use Rattle.store.proofs.spread.empty.Tie as tie
+use Rattle.store.proofs.gifts.empty.Statement.{statement}
+use Rattle.store.proofs.gifts.empty.Tie as tie
 
 abbrev Inv-loop : tie.InvT-loop
 Inv-loop items₀ r left₀ items left = Working (λ y. 0) items₀ r items left

@@ -4,8 +4,8 @@ use native.Mathlib.Omega.{arith}
 use Rattle.sets.specs.Sets.{count, _∪_}
 use Rattle.store.proofs.Worklist.{turn-below, turn-fewer, Working, working-start, working-more, working-end, given-mapped}
 use borrow.Author.Needs.{needs}
-use Rattle.store.proofs.spread.give.Statement.{statement}
-use Rattle.store.proofs.spread.give.Tie as tie
+use Rattle.store.proofs.gifts.give.Statement.{statement}
+use Rattle.store.proofs.gifts.give.Tie as tie
 
 abbrev Inv-loop : tie.InvT-loop
 Inv-loop items₀ r x left₀ items left = Working (λ y. y ∪ x) items₀ r items left
