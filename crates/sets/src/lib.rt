@@ -67,3 +67,6 @@ pub fn union_of(rows: &[u64]) -> u64
     }
     x
 }
+
+// Nothing is done. Lent as slices, arrays have their lengths, which the proofs of a caller use.
+pub fn lengths(words: &[u64], bytes: &[u8]) {}

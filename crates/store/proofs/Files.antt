@@ -1,25 +1,20 @@
--- The files of a list, the containers that are not in use, and those that no link leads into, as sets.
-use Prim.Native.Nat.{ℕ, _+_, _%_, _^_, _≤_, _<_}
-use native.Mathlib.Omega.{arith}
-use native.Mathlib.Nat.{mod-eq-of-lt}
-use native.Mathlib.Decide.{ℕ-discrete}
+-- The files of a list of entries, as a set.
+use Prim.Native.Nat.{ℕ, _+_, _≤_, _<_}
 use mathlib.Core.Path.{_≡_, refl, sym, ap, ap₂, _∙_}
-use mathlib.Core.Bool.{Bool, true, false, not, _&&_, _||_, or-false, and-comm, and-or-distrib-left}
+use mathlib.Core.Bool.{true, false, _&&_, and-comm, and-or-distrib-left}
 use mathlib.Core.List.{List, [], _∷_}
 use lib.Dec.{ltb, leb, eqb}
 use lib.ListN.{length, getD, take}
-use borrow.Author.Tests.{ltb-true, leb-true, eqb-true, eq-eqb, ne-eqb}
-use Rattle.sets.specs.Sets.{has, only, bit, thoseFrom, those, without, _∪_, lowest, unionOf}
-use Rattle.sets.proofs.Members.{union-has, only-has, none-has, those-has, those-lt, union-lt, only-lt, set-ext, eqb-sym, without-lt}
+use borrow.Author.Tests.{ltb-true, leb-true, eqb-true}
+use Rattle.sets.specs.Sets.{has, only, bit, thoseFrom, those, _∪_}
+use Rattle.sets.proofs.Members.{union-has, only-has, none-has, those-has, eqb-sym}
 use Rattle.sets.proofs.Unions.{all-more, union-assoc, union-comm}
 use Rattle.flow.specs.Lists.{isIn}
-use Rattle.flow.specs.Box.{isFile, Tables, feeds}
-use Rattle.flow.specs.Links.{isFed}
-use Rattle.flow.proofs.Bools.{and-l, and-r, by, no-both, chosen-l, chosen-r}
-use Rattle.store.proofs.Use.{unionOf-has, isIn-cons}
+use Rattle.flow.specs.Box.{isFile}
+use Rattle.flow.proofs.Bools.{and-l, and-r, by, chosen-l, chosen-r}
+use Rattle.flow.proofs.TableLaws.{isIn-cons}
 use Rattle.store.specs.Maps.{fileSet, filesIn, files}
 
--- ---- the files and pipes of a list
 pub file-range : (c : ℕ) → isFile c ≡ true → (24 ≤ c) × (c < 64)
 unfolding isFile
 file-range c h = (leb-true 24 c (and-l _ (ltb c 64) h), ltb-true c 64 (and-r (leb 24 c) _ h))
@@ -64,8 +59,3 @@ files-are = refl
 
 pub files-has : (c : ℕ) → c < 64 → has files c ≡ isFile c
 files-has c h = ap (λ (x : ℕ). has x c) files-are ∙ those-has isFile c h
-
--- ---- what links lead into
-pub fed-has : (t : Tables) (c : ℕ) → length (t .fed) ≡ 16 → has (unionOf (t .fed)) c ≡ isFed t c
-unfolding isFed feeds
-fed-has t c h = unionOf-has (t .fed) c h

@@ -16,7 +16,8 @@ use Rattle.sets.proofs.Unions.{none-union, unionOf-part}
 use Rattle.flow.specs.Box.{containerOf, feedersOf, feeds}
 use Rattle.flow.specs.Links.{linked, Reaches, here, onward, meets, reach}
 use Rattle.flow.proofs.Bools.{or-elim, or-l, or-r, and-l, and-r, and-i, by, no-both, or-false-l, or-false-r, or-false-i, and-false-l}
-use Rattle.flow.proofs.Reach.{link-cases, link-in, link-out, is-reach, meets-of, meets-at}
+use Rattle.flow.proofs.Reach.{link-cases, link-in, link-out, is-reach}
+use Rattle.flow.proofs.Meets.{meets-of, meets-at}
 use Rattle.store.specs.Search.{fedFrom, comesNext, Finds}
 use Rattle.store.proofs.Spreading.{links}
 
@@ -35,14 +36,6 @@ in-cases x y i f g h = or-elim (has x i) (has y i) f g (sym (union-has x y i) �
 
 no-common : (x y i : ℕ) {P : Type 0} → x ∩ y ≡ 0 → has x i ≡ true → has y i ≡ true → P
 no-common x y i e h k = no-both (inter-has x y i ∙ and-i (has x i) _ h k) (ap (λ (z : ℕ). has z i) e ∙ none-has i)
-
-pub meets-some : (x y : ℕ) → (x ∩ y ≡ 0 → ⊥) → meets x y ≡ true
-unfolding meets
-meets-some x y d = ap not (ne-eqb (x ∩ y) 0 d)
-
-pub meets-none : (x y : ℕ) → x ∩ y ≡ 0 → meets x y ≡ false
-unfolding meets
-meets-none x y e = ap not (eq-eqb (x ∩ y) 0 e)
 
 -- ---- the first process of a set that f holds of: todo is what is left to try
 pub record Seek (f : ℕ → Bool) (left todo : ℕ) : Type 0 where

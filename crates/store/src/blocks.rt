@@ -1,7 +1,7 @@
 // The descriptors of a process: 32 in a row.
 use crate::lookups::CLOSED;
 use crate::numbers::Process;
-ghost use Prim.Native.Nat.{_%_, _<_};
+ghost use Prim.Native.Nat.{_%_};
 ghost use mathlib.Core.Path.{_≡_};
 ghost use lib.ListN.{replicate};
 ghost use Rattle.flow.specs.Box.{descriptorCount, closed};
@@ -58,10 +58,12 @@ fn files_in(table: &[u8]) -> u64
 
 // The files and pipes that the descriptors of process p lead to.
 pub fn block_files(descriptors: &[u8; 512], p: Process) -> u64
-    requires { ⌜ p .0 < 16 ⌝ }
     ensures { λ r. ⌜ r ≡ filesIn (block (now (descriptors .entry)) (p .0)) ⌝ }
 {
     let all: &[u8] = descriptors;
-    let at = 32 * (p.0 as usize);
-    files_in(&all[at..at + 32])
+    if p.0 < 16 {
+        let at = 32 * (p.0 as usize);
+        return files_in(&all[at..at + 32]);
+    }
+    0
 }

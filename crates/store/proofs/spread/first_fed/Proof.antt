@@ -3,8 +3,9 @@ use Prim.Native.Nat.{_<_}
 use native.Mathlib.Omega.{arith}
 use Rattle.sets.specs.Sets.{_∩_, count}
 use Rattle.sets.proofs.Members.{turn-fewer}
+use Rattle.flow.proofs.Meets.{meets-true, meets-false}
 use Rattle.store.specs.Search.{fedFrom}
-use Rattle.store.proofs.Searching.{meets-some, meets-none, Seek, seek-start, seek-below, seek-hit, seek-miss, seek-end}
+use Rattle.store.proofs.Searching.{Seek, seek-start, seek-below, seek-hit, seek-miss, seek-end}
 use borrow.Author.Needs.{needs}
 use Rattle.store.proofs.spread.first_fed.Statement.{statement}
 use Rattle.store.proofs.spread.first_fed.Tie as tie
@@ -38,7 +39,7 @@ returns : tie.Need-returns Inv-loop μ-loop
 unfolding _∩_
 returns c =
     let b = c .before .before in
-    seek-hit (b .before .before .loop .inv) (b .before .loop-test .taken) _ (b .lowest .ensures) (meets-some _ _ (c .if1 .taken))
+    seek-hit (b .before .before .loop .inv) (b .before .loop-test .taken) _ (b .lowest .ensures) (meets-true _ _ (c .if1 .taken))
 
 loop-less : tie.Need-loop-less Inv-loop μ-loop
 loop-less c =
@@ -49,7 +50,7 @@ loop-again : tie.Need-loop-again Inv-loop μ-loop
 unfolding _∩_
 loop-again c =
     let b = c .before .before .before in
-    seek-miss (b .before .before .loop .inv) (b .before .loop-test .taken) _ (b .lowest .ensures) (meets-none _ _ (c .before .if1 .left)) _ (c .without .ensures)
+    seek-miss (b .before .before .loop .inv) (b .before .loop-test .taken) _ (b .lowest .ensures) (meets-false _ _ (c .before .if1 .left)) _ (c .without .ensures)
 
 returns-2 : tie.Need-returns-2 Inv-loop μ-loop
 returns-2 c = seek-end (c .before .loop .inv) (c .loop-test .left)
