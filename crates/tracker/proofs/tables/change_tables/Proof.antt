@@ -22,32 +22,6 @@ row c o = let m = view (c .args .words .now) (c .args .descriptors .now) (c .arg
 small : {x : ℕ} → x < 16 → x % 64 ≡ x
 small h = mod-eq-of-lt (omega arith)
 
-set-links-requires : tie.Need-set-links-requires
-set-links-requires c κs =
-    let c9 = c .before .before .before .before .before .before .before .before .before in
-    process-lt (c9 .pre)
-
-set-links-requires-2 : tie.Need-set-links-requires-2
-set-links-requires-2 c κs =
-    let c10 = c .before .before .before .before .before .before .before .before .before .before in
-    process-lt (c10 .pre)
-
-set-links-requires-3 : tie.Need-set-links-requires-3
-set-links-requires-3 c κs =
-    let c8 = c .before .before .before .before .before .before .before .before in
-    process-lt (c8 .pre)
-
-set-links-requires-4 : tie.Need-set-links-requires-4
-set-links-requires-4 c κs =
-    let c7 = c .before .before .before .before .before .before .before in
-    let c8 = c7 .before in
-    fork-other (c8 .pre) (c7 .match .keys14)
-
-set-links-requires-5 : tie.Need-set-links-requires-5
-set-links-requires-5 c κs =
-    let c4 = c .before .before .before .before in
-    process-lt (c4 .pre)
-
 returns : tie.Need-returns
 unfolding view withLive withLinks withDescriptors withNames tablesAt tablesBy kinds descriptor name feedersOf feeds
 returns c =
@@ -214,18 +188,6 @@ change-tables-spec =
     (λ c κs. search needs)
     (λ c κs. search needs)
     (λ c κs. search needs)
-    set-links-requires
-    (λ c κs. search needs)
-    (λ c κs. search needs)
-    (λ c κs. search needs)
-    (λ c κs. search needs)
-    (λ c κs. search needs)
-    set-links-requires-2
-    (λ c κs. search needs)
-    (λ c κs. search needs)
-    (λ c κs. search needs)
-    (λ c κs. search needs)
-    set-links-requires-3
     (λ c κs. search needs)
     (λ c κs. search needs)
     (λ c κs. search needs)
@@ -235,12 +197,24 @@ change-tables-spec =
     (λ c κs. search needs)
     (λ c κs. search needs)
     (λ c κs. search needs)
-    set-links-requires-4
     (λ c κs. search needs)
     (λ c κs. search needs)
     (λ c κs. search needs)
     (λ c κs. search needs)
-    set-links-requires-5
+    (λ c κs. search needs)
+    (λ c κs. search needs)
+    (λ c κs. search needs)
+    (λ c κs. search needs)
+    (λ c κs. search needs)
+    (λ c κs. search needs)
+    (λ c κs. search needs)
+    (λ c κs. search needs)
+    (λ c κs. search needs)
+    (λ c κs. search needs)
+    (λ c κs. search needs)
+    (λ c κs. search needs)
+    (λ c κs. search needs)
+    (λ c κs. search needs)
     (λ c κs. search needs)
     (λ c κs. search needs)
     (λ c κs. search needs)
