@@ -14,9 +14,6 @@ Inv-loop rows d m n cells₀ i₀ cells i = (i ≤ 32) × Filled d rows (2 * i) 
 abbrev μ-loop : tie.MeasureT-loop
 μ-loop rows d m n cells₀ i₀ cells i = 32 - i
 
-loop-holds : tie.Need-loop-holds Inv-loop μ-loop
-loop-holds c = (search needs, filled-none _ _ _ (search needs))
-
 slice-write-cells-2 : tie.Need-slice-write-cells-2 Inv-loop μ-loop
 slice-write-cells-2 c =
     let b = c .before .before .before .before .before in
@@ -38,7 +35,7 @@ round-spec =
     (tie.spec
     Inv-loop
     μ-loop
-    loop-holds
+    (λ c. (search needs, filled-none _ _ _ (search needs)))
     (λ c. search needs)
     (λ c. search needs)
     (λ c. search needs)

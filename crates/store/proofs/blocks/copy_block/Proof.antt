@@ -36,9 +36,6 @@ module _ (c : tie.After-entries Inv-loop μ-loop) where
   same : (d : ℕ) → d ≤ 32 → length (laid list start (part list source) d) ≡ 512
   same d h = laid-long list start (part list source) d (omega (arith, long)) (omega (arith, part-whole)) ∙ long
 
-loop-holds : tie.Need-loop-holds Inv-loop μ-loop
-loop-holds c = (search needs, laid-none _ _ _)
-
 slice-read-e : tie.Need-slice-read-e Inv-loop μ-loop
 slice-read-e c =
     let b = c .before .before .before .before .before in
@@ -81,7 +78,7 @@ copy-block-spec =
     (λ c. search needs)
     (λ c. search needs)
     (λ c. search needs)
-    loop-holds
+    (λ c. (search needs, laid-none _ _ _))
     (λ c. search needs)
     slice-read-e
     (λ c. search needs)

@@ -16,24 +16,9 @@ Inv-loop feeders left x todo₀ todo = Seek (fedFrom feeders x) left todo
 abbrev μ-loop : tie.MeasureT-loop
 μ-loop feeders left x todo₀ todo = count todo
 
-loop-holds : tie.Need-loop-holds Inv-loop μ-loop
-loop-holds c = seek-start _ _ (c .before .pre .1)
-
 -- the process that is tried
 below : (c : tie.After-lowest Inv-loop μ-loop) → c .lowest .result < 16
 below c = seek-below (c .before .before .loop .inv) (c .before .loop-test .taken) _ (c .lowest .ensures)
-
-cast-p : tie.Need-cast-p Inv-loop μ-loop
-cast-p c = omega (arith, below c)
-
-cast-if1 : tie.Need-cast-if1 Inv-loop μ-loop
-cast-if1 c = omega (arith, below c)
-
-mul-if1 : tie.Need-mul-if1 Inv-loop μ-loop
-mul-if1 c = omega (arith, below c)
-
-shared-slice-read-if1 : tie.Need-shared-slice-read-if1 Inv-loop μ-loop
-shared-slice-read-if1 c = omega (arith, below (c .before))
 
 returns : tie.Need-returns Inv-loop μ-loop
 unfolding _∩_
@@ -61,12 +46,12 @@ first-fed-spec =
     (tie.spec
     Inv-loop
     μ-loop
-    loop-holds
+    (λ c. seek-start _ _ (c .before .pre .1))
     (λ c κs. search needs)
-    cast-p
-    cast-if1
-    mul-if1
-    shared-slice-read-if1
+    (λ c. omega (arith, below c))
+    (λ c. omega (arith, below c))
+    (λ c. omega (arith, below c))
+    (λ c. omega (arith, below (c .before)))
     returns
     (λ c κs. search needs)
     loop-less

@@ -36,9 +36,6 @@ came c = c .before .next .ensures .found (c .if1 .left)
 below : (c : tie.Else1 Inv-loop μ-loop) → c .before .next .result < 16
 below c = next-lt (c .before .before .loop .inv) _ (came c)
 
-loop-holds : tie.Need-loop-holds Inv-loop μ-loop
-loop-holds c = rw (c .with .ensures) (search-start _ _ _ (c .before .before .before .before .pre .1))
-
 next-requires : tie.Need-next-requires Inv-loop μ-loop
 unfolding part
 next-requires c κs = (c .before .before .before .before .before .pre .0, c .before .before .union-of .ensures, c .loop .inv .small)
@@ -48,20 +45,8 @@ returns c =
     let b = c .before .before in
     λ d n. search-over (b .loop .inv) (b .before .before .before .before .before .pre .1) (bound b) _ (c .if1 .taken) (c .before .next .ensures) ∙ reach-view _ d n _
 
-cast-with : tie.Need-cast-with Inv-loop μ-loop
-cast-with c = omega (arith, below c)
-
-add-with : tie.Need-add-with Inv-loop μ-loop
-add-with c = omega (arith, below c)
-
-mul-with : tie.Need-mul-with Inv-loop μ-loop
-mul-with c = omega (arith, below c)
-
 shared-slice-read-with : tie.Need-shared-slice-read-with Inv-loop μ-loop
 shared-slice-read-with c = omega (arith, below (c .before), c .before .before .before .before .before .before .before .before .pre .0)
-
-add-with-2 : tie.Need-add-with-2 Inv-loop μ-loop
-add-with-2 c = omega (arith, below (c .before))
 
 loop-less : tie.Need-loop-less Inv-loop μ-loop
 loop-less c =
@@ -86,14 +71,14 @@ search-spec =
     (λ c. search needs)
     (λ c κs. search needs)
     (λ c κs. search needs)
-    loop-holds
+    (λ c. rw (c .with .ensures) (search-start _ _ _ (c .before .before .before .before .pre .1)))
     next-requires
     returns
-    cast-with
-    add-with
-    mul-with
+    (λ c. omega (arith, below c))
+    (λ c. omega (arith, below c))
+    (λ c. omega (arith, below c))
     shared-slice-read-with
-    add-with-2
+    (λ c. omega (arith, below (c .before)))
     (λ c κs. search needs)
     (λ c κs. search needs)
     loop-less
