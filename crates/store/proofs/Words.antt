@@ -76,15 +76,7 @@ module _ (w l d n : List ℕ) (long : length w ≡ 97) where
   unfolding view part
   items-cleared r e = made _ (cleared-length _ r) e
 
--- the descriptors of process p as a part of the table
-pub block-part : (l : List ℕ) (p : ℕ) → take (32 * p + 32 - 32 * p) (drop (32 * p) l) ≡ block l p
-unfolding block
-block-part l p =
-    let k : 32 * p + 32 - 32 * p ≡ 32 = omega arith in
-    let i : 32 * p ≡ slot p 0 = omega arith in
-    ap (λ (n : ℕ). take n (drop (32 * p) l)) k ∙ ap (λ (n : ℕ). take 32 (drop n l)) i
-
--- past the last process there is none
+-- past the last process there are no descriptors
 pub block-past : (l : List ℕ) (p : ℕ) → length l ≤ 32 * p → block l p ≡ []
 unfolding block
 block-past l p h = let k : length l ≤ slot p 0 = omega arith in ap (take 32) (drop-of-length-le l k)
