@@ -74,3 +74,13 @@ chosen-l false x y e = absurd (false≢true e)
 pub chosen-r : {A : Type 0} (b : Bool) (x y : A) → b ≡ false → _≡_ {A = A} (elim b as (λ z. A) [ true ↦ x | false ↦ y ]) y
 chosen-r true x y e = absurd (true≢false e)
 chosen-r false x y e = refl
+
+-- two truth values, each of which implies the other
+pub same : (a b : Bool) → (a ≡ true → b ≡ true) → (b ≡ true → a ≡ true) → a ≡ b
+same true b f g = sym (f refl)
+same false true f g = g refl
+same false false f g = refl
+
+pub or-choice : (b c : Bool) → _≡_ {A = Bool} (elim b as (λ z. Bool) [ true ↦ true | false ↦ c ]) (b || c)
+or-choice true c = refl
+or-choice false c = refl

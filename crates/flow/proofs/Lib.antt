@@ -4,6 +4,7 @@ pub mod KindLaws
 pub mod Refused
 pub mod Logs
 pub mod Judging
+pub mod Meets
 pub mod Reach
 pub mod Rows
 pub mod Use

@@ -12,6 +12,7 @@ use Rattle.sets.specs.Sets.{has, only, _∪_, _∩_, count}
 use Rattle.sets.proofs.Members.{union-has, inter-has, only-has, none-has, union-lt, only-lt, set-ext, some-member, count-part, count-le}
 use Rattle.flow.specs.Box.{isProcess, containerOf, Tables, feedersOf, feeds}
 use Rattle.flow.specs.Links.{linked, Reaches, here, onward, meets, through, throughEach, closure, reach}
+use Rattle.flow.proofs.Meets.{meets-of, meets-at}
 use Rattle.flow.proofs.Bools.{or-elim, or-l, or-r, and-l, and-r, and-i, by, no-both, choice, chosen-l}
 
 -- ---- processes and their links
@@ -47,27 +48,6 @@ module _ (t : Tables) (p : ℕ) (hp : p < 16) where
   pub link-out : (v : ℕ) → has (feeds t p) v ≡ true → linked t (containerOf p) v ≡ true
   unfolding linked
   link-out v h = or-r (isProcess v && has (feedersOf t (v - 8)) (containerOf p)) _ (and-i (isProcess (containerOf p)) _ (container-process p hp) (rw (container-number p) h))
-
--- ---- sets with a common member
-meets-of : (x y i : ℕ) → has x i ≡ true → has y i ≡ true → meets x y ≡ true
-unfolding meets
-meets-of x y i h k =
-    by (eqb (x ∩ y) 0)
-    (λ e. no-both (inter-has x y i ∙ and-i (has x i) _ h k) (ap (λ (z : ℕ). has z i) (eqb-true (x ∩ y) 0 e) ∙ none-has i))
-    (λ e. ap not e)
-
-meets-at : (x y : ℕ) → meets x y ≡ true → (i : ℕ) × (has x i ≡ true) × (has y i ≡ true)
-unfolding meets
-meets-at x y h = go (eqb (x ∩ y) 0) refl h
-  where
-    go : (b : Bool) → eqb (x ∩ y) 0 ≡ b → not b ≡ true → (i : ℕ) × (has x i ≡ true) × (has y i ≡ true)
-    go true e f = no-both {b = not true} f refl
-    go false e f =
-        let n : (x ∩ y) ≡ 0 → ⊥ = eqb-false (x ∩ y) 0 e in
-        let l : 0 < (x ∩ y) = omega arith in
-        let w = some-member (x ∩ y) l in
-        let m : (has x (w .0) && has y (w .0)) ≡ true = sym (inter-has x y (w .0)) ∙ w .1 in
-        (w .0, and-l _ (has y (w .0)) m, and-r (has x (w .0)) _ m)
 
 -- ---- following links
 abbrev Part : ℕ → ℕ → Type 0

@@ -3,8 +3,8 @@ use Prim.Native.Nat.{ℕ, zero, suc, _+_, _≤_, _<_}
 use native.Mathlib.Omega.{arith}
 use native.Mathlib.Nat.{not-suc-le-zero, le-of-suc-le-suc}
 use native.Mathlib.Decide.{ℕ-discrete, decLt}
-use mathlib.Core.Path.{_≡_, refl, sym, ap, _∙_}
-use mathlib.Core.Bool.{Bool, true, false}
+use mathlib.Core.Path.{_≡_, refl, sym, ap, ap₂, _∙_}
+use mathlib.Core.Bool.{Bool, true, false, _||_, or-comm}
 use mathlib.Core.List.{List, [], _∷_, _++_}
 use mathlib.Core.Option.{Option, none, some}
 use lib.Dec.{ltb, eqb}
@@ -12,7 +12,7 @@ use lib.ListN.{getD, length, set}
 use lib.Seq.{getD-set-same, getD-set-other, set-out, ext-getD}
 use borrow.Author.Tests.{ltb-true, ltb-false, eq-eqb}
 use Rattle.flow.specs.Lists.{tableFrom, table, someBelow, isIn, Test, _⇒_, firstThat, isNone}
-use Rattle.flow.proofs.Bools.{by, no-both, choice}
+use Rattle.flow.proofs.Bools.{by, no-both, choice, or-choice}
 
 tableFrom-at : {A : Type 0} (n k : ℕ) (f : ℕ → A) (i : ℕ) (d : A) → i < n → getD (tableFrom n k f) i d ≡ f (k + i)
 unfolding tableFrom
@@ -54,7 +54,42 @@ none-below zero f h = refl
 none-below (suc n) f h =
     choice (λ x. x ≡ false) (f n) true (someBelow n f) (λ q. no-both q (h n (omega arith))) (λ q. none-below n f (λ i l. h i (omega arith)))
 
--- ---- an entry of a list stands in it
+-- some number below n of which f holds
+pub some-at : (n : ℕ) (f : ℕ → Bool) → someBelow n f ≡ true → (i : ℕ) × (i < n) × (f i ≡ true)
+unfolding someBelow
+some-at zero f e = no-both e refl
+some-at (suc n) f e = go (f n) refl e (some-at n f)
+  where
+    go : (b : Bool) → f n ≡ b → _≡_ {A = Bool} (elim b as (λ z. Bool) [ true ↦ true | false ↦ someBelow n f ]) true → (someBelow n f ≡ true → (i : ℕ) × (i < n) × (f i ≡ true)) → (i : ℕ) × (i < suc n) × (f i ≡ true)
+    go true q h k = (n, omega arith, q)
+    go false q h k = let w = k h in (w .0, omega (arith, w .1), w .2)
+
+pub some-more : (n : ℕ) (f : ℕ → Bool) → someBelow (suc n) f ≡ (f n || someBelow n f)
+unfolding someBelow
+some-more n f = or-choice (f n) (someBelow n f)
+
+pub some-same : (n : ℕ) {f g : ℕ → Bool} → ((i : ℕ) → i < n → f i ≡ g i) → someBelow n f ≡ someBelow n g
+unfolding someBelow
+some-same zero h = refl
+some-same (suc n) {f} {g} h =
+    some-more n f ∙ ap₂ _||_ (h n (omega arith)) (some-same n (λ i l. h i (omega arith))) ∙ sym (some-more n g)
+
+pub some-or : (n : ℕ) (f g : ℕ → Bool) → someBelow n (λ i. f i || g i) ≡ (someBelow n f || someBelow n g)
+unfolding someBelow
+some-or zero f g = refl
+some-or (suc n) f g = some-more n (λ i. f i || g i) ∙ rw (some-or n f g, some-more n f, some-more n g) (swap (f n) (g n) (someBelow n f) (someBelow n g))
+  where
+    swap : (a b c d : Bool) → ((a || b) || (c || d)) ≡ ((a || c) || (b || d))
+    swap true b c d = refl
+    swap false true c d = sym (or-comm c true)
+    swap false false c d = refl
+
+-- ---- what stands in a list
+pub isIn-cons : (c x : ℕ) (l : List ℕ) → isIn c (x ∷ l) ≡ (eqb c x || isIn c l)
+unfolding isIn
+isIn-cons c x l = or-choice (eqb c x) (isIn c l)
+
+-- an entry does
 pub is-in : (l : List ℕ) (k d : ℕ) → (getD l k d ≡ d → ⊥) → isIn (getD l k d) l ≡ true
 unfolding isIn
 is-in [] k d h = absurd (h refl)

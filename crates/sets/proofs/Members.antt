@@ -2,11 +2,12 @@
 use Prim.Native.Nat.{ℕ, zero, suc, _+_, _-_, _*_, _/_, _%_, _^_, _≤_, _<_, zero-le, suc-le-suc, max, min}
 use mathlib.Core.Path.{_≡_, refl, sym, ap, ap₂, _∙_}
 use mathlib.Core.Logic.{_⊎_, inl, inr}
-use mathlib.Core.Bool.{Bool, true, false, not, _&&_, _||_, true≢false}
+use mathlib.Core.Bool.{Bool, true, false, not, _&&_, _||_, true≢false, and-comm}
 use native.Mathlib.Omega.{arith}
-use native.Mathlib.Nat.{not-suc-le-zero, le-of-suc-le-suc, div-eq-of-lt, lt-of-lt-of-le}
+use native.Mathlib.Nat.{not-suc-le-zero, le-of-suc-le-suc, div-eq-of-lt, lt-of-lt-of-le, mod-eq-of-lt}
 use native.Mathlib.Decide.{ℕ-discrete, decLe}
 use lib.Dec.{eqb, eqb·zero-suc, eqb·suc-zero, eqb·suc-suc}
+use borrow.Author.Tests.{eq-eqb, ne-eqb}
 use lib.Pow.{shr-shr, pow-lt, pow-mono}
 use lib.Bits.{bitOr, bitAnd, or-step, and-step, or-lt, and-le-l}
 use lib.Count.{ones, ones-step, ones-le, trailingZeros, under}
@@ -147,22 +148,31 @@ pub union-lt : (x y : ℕ) → x < 2 ^ 64 → y < 2 ^ 64 → (x ∪ y) < 2 ^ 64
 unfolding _∪_
 union-lt x y h k = or-lt 64 x y h k
 
-pub inter-lt : (x y : ℕ) → x < 2 ^ 64 → (x ∩ y) < 2 ^ 64
+pub inter-le : (x y : ℕ) → (x ∩ y) ≤ x
 unfolding _∩_
-inter-lt x y h = omega (arith, and-le-l x y)
+inter-le x y = and-le-l x y
 
--- ---- the members are below 64
+pub inter-lt : (x y : ℕ) → x < 2 ^ 64 → (x ∩ y) < 2 ^ 64
+inter-lt x y h = omega (arith, inter-le x y)
+
+-- ---- the members of a set below 2 ^ n are below n
+
+past : (n x i : ℕ) → x < 2 ^ n → n ≤ i → has x i ≡ false
+unfolding has
+past n x i h k = ap (λ (m : ℕ). eqb (m % 2) 1) (div-eq-of-lt (lt-of-lt-of-le h (pow-mono k)))
 
 pub past-has : (x i : ℕ) → x < 2 ^ 64 → 64 ≤ i → has x i ≡ false
-unfolding has
-past-has x i h k = ap (λ (n : ℕ). eqb (n % 2) 1) (div-eq-of-lt (lt-of-lt-of-le h (pow-mono k)))
+past-has = past 64
+
+pub has-below : (n x i : ℕ) → x < 2 ^ n → has x i ≡ true → i < n
+has-below n x i h m = go (decLe n i)
+  where
+    go : Dec (n ≤ i) → i < n
+    go (yes k) = absurd (true≢false (sym m ∙ past n x i h k))
+    go (no d) = omega arith
 
 pub has-lt : (x i : ℕ) → x < 2 ^ 64 → has x i ≡ true → i < 64
-has-lt x i h m = go (decLe 64 i)
-  where
-    go : Dec (64 ≤ i) → i < 64
-    go (yes k) = absurd (true≢false (sym m ∙ past-has x i h k))
-    go (no n) = omega arith
+has-lt = has-below 64
 
 -- ---- two sets with the same members are the same number
 
@@ -211,7 +221,7 @@ pub lowest-none : lowest 0 ≡ 64
 unfolding lowest trailingZeros
 lowest-none = refl
 
-lt-pow : (x : ℕ) → x < 2 ^ x
+pub lt-pow : (x : ℕ) → x < 2 ^ x
 lt-pow zero = omega arith
 lt-pow (suc x) = omega (arith, lt-pow x)
 
@@ -275,3 +285,74 @@ less-only x i h l =
     (λ j k.
     inter-has x (2 ^ 64 - 1 - only i) j
     ∙ rw (rest-has 64 (only i) j (only-lt i l) k, only-has i j, eqb-sym i j) (sym (without-has x i j k)))
+
+pub without-le : (x i : ℕ) → x < 2 ^ 64 → i < 64 → without x i ≤ x
+without-le x i h l = rw (less-only x i h l) at (inter-le x (2 ^ 64 - 1 - only i))
+
+-- ---- x without v, at v and elsewhere
+pub without-at : (x v i : ℕ) → i < 64 → i ≡ v → has (without x v) i ≡ false
+without-at x v i k d = without-has x v i k ∙ ap (λ (b : Bool). has x i && not b) (eq-eqb i v d) ∙ and-comm (has x i) false
+
+pub without-other : (x v i : ℕ) → i < 64 → (i ≡ v → ⊥) → has (without x v) i ≡ has x i
+without-other x v i k d = without-has x v i k ∙ ap (λ (b : Bool). has x i && not b) (ne-eqb i v d) ∙ and-comm (has x i) true
+
+pub without-part : (x v i : ℕ) → has (without x v) i ≡ true → has x i ≡ true
+without-part x v i m = first (has x i) (not (eqb i v)) (sym (without-has x v i (has-lt _ i (without-lt x v) m)) ∙ m)
+  where
+    first : (a b : Bool) → (a && b) ≡ true → a ≡ true
+    first true b e = refl
+    first false b e = e
+
+-- with one taken out, one fewer
+ones-more : (n k : ℕ) (f : ℕ → Bool) → ones (thoseFrom (suc n) k f) ≡ bit (f k) + ones (thoseFrom n (suc k) f)
+unfolding thoseFrom bit
+ones-more n k f = go (f k) (thoseFrom n (suc k) f)
+  where
+    go : (b : Bool) (m : ℕ) → ones (bit b + 2 * m) ≡ bit b + ones m
+    go true m = let e : (1 + 2 * m) / 2 ≡ m = omega arith in omega (arith, ones-step (1 + 2 * m), ap ones e)
+    go false m = let e : (0 + 2 * m) / 2 ≡ m = omega arith in omega (arith, ones-step (0 + 2 * m), ap ones e)
+
+same-those : (n k : ℕ) (f g : ℕ → Bool) → ((j : ℕ) → k ≤ j → f j ≡ g j) → thoseFrom n k f ≡ thoseFrom n k g
+unfolding thoseFrom
+same-those zero k f g e = refl
+same-those (suc n) k f g e = rw (e k (omega arith), same-those n (suc k) f g (λ j h. e j (omega arith)))
+
+less : (f : ℕ → Bool) (c : ℕ) → f c ≡ true → (n k : ℕ) → k ≤ c → c < k + n
+    → ones (thoseFrom n k f) ≡ ones (thoseFrom n k (λ j. f j && not (eqb j c))) + 1
+unfolding bit
+less f c m zero k h l = absurd (omega arith)
+less f c m (suc n) k h l =
+    rw (ones-more n k f, ones-more n k (λ j. f j && not (eqb j c)))
+    (go (λ a. less f c m n (suc k) a (omega arith)) (ℕ-discrete k c))
+  where
+    after : (n k : ℕ) → c < k → thoseFrom n k f ≡ thoseFrom n k (λ j. f j && not (eqb j c))
+    after n k h = same-those n k f (λ j. f j && not (eqb j c)) (λ j l. rw (ne-eqb j c (λ e. omega arith)) (and-comm true (f j)))
+
+    go : (suc k ≤ c → ones (thoseFrom n (suc k) f) ≡ ones (thoseFrom n (suc k) (λ j. f j && not (eqb j c))) + 1) → Dec (k ≡ c)
+        → bit (f k) + ones (thoseFrom n (suc k) f) ≡ bit (f k && not (eqb k c)) + ones (thoseFrom n (suc k) (λ j. f j && not (eqb j c))) + 1
+    go later (yes e) = rw (e, m, eq-eqb c c refl, after n (suc c) (omega arith)) (omega arith)
+    go later (no d) = rw (ne-eqb k c d, and-comm (f k) true) (omega (arith, later (omega arith)))
+
+pub count-less : (x v : ℕ) → x < 2 ^ 64 → has x v ≡ true → count x ≡ count (without x v) + 1
+unfolding count without those
+count-less x v h m =
+    ap ones (set-ext x (thoseFrom 64 0 (has x)) h (those-lt (has x)) (λ i l. sym (those-has (has x) i l)))
+    ∙ less (has x) v m 64 0 zero-le (has-lt x v h m)
+
+pub count-none : count 0 ≡ 0
+unfolding count
+count-none = omega (arith, ones-le 0 0 (omega arith))
+
+-- ---- one turn of a loop that takes the lowest member v of those left
+module _ (left : ℕ) (small : left < 2 ^ 64) (more : left ≡ 0 → ⊥) (v : ℕ) (is : v ≡ lowest left) where
+  pub member : has left v ≡ true
+  member = rw is (lowest-has left small (omega (arith, more)))
+
+  pub turn-below : v < 64
+  turn-below = has-lt left v small member
+
+  pub itself : v % 64 ≡ v
+  itself = mod-eq-of-lt turn-below
+
+  pub turn-fewer : (later : ℕ) → later ≡ without left (v % 64) → count later < count left
+  turn-fewer later e = rw (e, itself) (omega (arith, count-less left v small member))

@@ -1,6 +1,7 @@
 -- Sets of the numbers 0 to 63, each coded as one number below 2 ^ 64: i is a member where bit i is set. The empty set is 0.
 use Prim.Native.Nat.{ℕ, zero, suc, _+_, _*_, _/_, _%_, _^_}
 use mathlib.Core.Bool.{Bool, true, false, not, _&&_}
+use mathlib.Core.List.{List, [], _∷_}
 use lib.Dec.{eqb}
 use lib.Bits.{bitOr, bitAnd}
 use lib.Count.{ones, trailingZeros}
@@ -46,3 +47,8 @@ count x = ones x
 -- the lowest member, and 64 of the empty set
 unfoldable pub lowest : ℕ → ℕ
 lowest x = trailingZeros 64 x
+
+-- the members of all sets of a list
+unfoldable pub unionOf : List ℕ → ℕ
+unionOf [] = 0
+unionOf (x ∷ l) = x ∪ unionOf l

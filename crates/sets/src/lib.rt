@@ -1,7 +1,7 @@
 // Sets of the numbers 0 to 63, each in one u64. A number i stands for i % 64.
 ghost use mathlib.Core.Path.{_≡_};
 ghost use Prim.Native.Nat.{_%_};
-ghost use Rattle.sets.specs.Sets.{has, only, _∪_, _∩_, without, count, lowest};
+ghost use Rattle.sets.specs.Sets.{has, only, _∪_, _∩_, without, count, lowest, unionOf};
 
 // Whether i is a member of x.
 pub fn member(x: u64, i: u8) -> bool
@@ -56,3 +56,17 @@ pub fn lowest(x: u64) -> u32
 {
     u64::trailing_zeros(x)
 }
+
+// The members of all sets of a slice.
+pub fn union_of(rows: &[u64]) -> u64
+    ensures { λ r. ⌜ r ≡ unionOf (now (rows .entry)) ⌝ }
+{
+    let mut x = 0u64;
+    for i in 0..rows.len() {
+        x = x | rows[i];
+    }
+    x
+}
+
+// Nothing is done. Lent as slices, arrays have their lengths, which the proofs of a caller use.
+pub fn lengths(words: &[u64], bytes: &[u8]) {}

@@ -1,24 +1,25 @@
--- The files of a list, the containers that are not in use, and those that no link leads into, as sets.
-use Prim.Native.Nat.{ℕ, _+_, _%_, _^_, _≤_, _<_}
+-- The files of a list of entries, as a set.
+use Prim.Native.Nat.{ℕ, _+_, _-_, _*_, _≤_, _<_}
 use native.Mathlib.Omega.{arith}
-use native.Mathlib.Nat.{mod-eq-of-lt}
-use native.Mathlib.Decide.{ℕ-discrete}
 use mathlib.Core.Path.{_≡_, refl, sym, ap, ap₂, _∙_}
-use mathlib.Core.Bool.{Bool, true, false, not, _&&_, _||_, or-false, and-comm, and-or-distrib-left}
-use mathlib.Core.List.{List, [], _∷_}
+use mathlib.Core.Bool.{Bool, true, false, not, _&&_, and-comm, and-or-distrib-left}
+use mathlib.Core.List.{List, [], _∷_, _++_}
 use lib.Dec.{ltb, leb, eqb}
-use lib.ListN.{length, getD, take}
-use borrow.Author.Tests.{ltb-true, leb-true, eqb-true, eq-eqb, ne-eqb}
-use Rattle.sets.specs.Sets.{has, only, bit, thoseFrom, those, without, _∪_, lowest}
-use Rattle.sets.proofs.Members.{union-has, only-has, none-has, those-has, those-lt, union-lt, only-lt, set-ext, eqb-sym, without-lt}
+use lib.Bits.{bitOr, or-add-and, and-le-l, and-le-r}
+use lib.ListN.{length, getD, take, drop}
+use lib.Seq.{take-add, drop-drop}
+use mir.Val.{boolByte}
+use borrow.Author.Tests.{ltb-true, leb-true, eqb-true}
+use Rattle.sets.specs.Sets.{has, only, bit, thoseFrom, those, _∪_}
+use Rattle.sets.proofs.Members.{union-has, only-has, none-has, those-has, eqb-sym}
+use Rattle.sets.proofs.Unions.{all-more, union-assoc, union-comm, none-union}
 use Rattle.flow.specs.Lists.{isIn}
-use Rattle.flow.specs.Box.{isFile, Tables, feeds}
-use Rattle.flow.specs.Links.{isFed}
+use Rattle.flow.specs.Box.{isFile, slot}
+use Rattle.flow.specs.Calls.{block}
 use Rattle.flow.proofs.Bools.{and-l, and-r, by, no-both, chosen-l, chosen-r}
-use Rattle.store.proofs.Use.{all-more, union-assoc, union-comm, unionOf-has, isIn-cons}
-use Rattle.store.specs.Maps.{unionOf, fileSet, filesIn, files}
+use Rattle.flow.proofs.TableLaws.{isIn-cons}
+use Rattle.store.specs.Maps.{fileSet, filesIn, files}
 
--- ---- the files and pipes of a list
 pub file-range : (c : ℕ) → isFile c ≡ true → (24 ≤ c) × (c < 64)
 unfolding isFile
 file-range c h = (leb-true 24 c (and-l _ (ltb c 64) h), ltb-true c 64 (and-r (leb 24 c) _ h))
@@ -64,7 +65,36 @@ files-are = refl
 pub files-has : (c : ℕ) → c < 64 → has files c ≡ isFile c
 files-has c h = ap (λ (x : ℕ). has x c) files-are ∙ those-has isFile c h
 
--- ---- what links lead into
-pub fed-has : (t : Tables) (c : ℕ) → length (t .fed) ≡ 16 → has (unionOf (t .fed)) c ≡ isFed t c
-unfolding isFed feeds
-fed-has t c h = unionOf-has (t .fed) c h
+-- ---- entries of 64 or more
+byte-none : (b : Bool) → boolByte b ≡ 0 → b ≡ false
+byte-none true e = absurd (let z : ⊥ = omega arith in z)
+byte-none false e = refl
+
+pub flag-none : (n : ℕ) → not (eqb n 0) ≡ false → n ≡ 0
+flag-none n e = by (eqb n 0) (λ q. eqb-true n 0 q) (λ q. no-both (ap not q) e)
+
+pub none-low : (l : List ℕ) (i found : ℕ) → i < length l → (found ≡ 0 → filesIn (take i l) ≡ 0)
+    → bitOr found (boolByte (ltb (getD l i 0) 64)) ≡ 0 → filesIn (take (i + 1) l) ≡ 0
+unfolding isFile
+none-low l i found h q e =
+    let x : ℕ = getD l i 0 in
+    let b : ℕ = boolByte (ltb x 64) in
+    let p : found ≡ 0 = omega (arith, or-add-and found b, and-le-r found b) in
+    let r : boolByte (ltb x 64) ≡ 0 = omega (arith, or-add-and found b, and-le-l found b) in
+    let s : isFile x ≡ false = rw (byte-none (ltb x 64) r, and-comm (leb 24 x) false) in
+    filesIn-more l i h ∙ ap₂ _∪_ (q p) (fileSet-none x s) ∙ none-union 0
+
+-- ---- two parts of a list
+filesIn-append : (k l : List ℕ) → filesIn (k ++ l) ≡ filesIn k ∪ filesIn l
+unfolding filesIn
+filesIn-append [] l = sym (none-union (filesIn l))
+filesIn-append (e ∷ k) l = ap (λ (x : ℕ). fileSet e ∪ x) (filesIn-append k l) ∙ sym (union-assoc (fileSet e) (filesIn k) (filesIn l))
+
+-- the first 8 descriptors of process p, and the other 24
+pub block-files : (l : List ℕ) (p : ℕ) → filesIn (take (32 * p + 8 - 32 * p) (drop (32 * p) l)) ∪ filesIn (take (32 * p + 32 - (32 * p + 8)) (drop (32 * p + 8) l)) ≡ filesIn (block l p)
+unfolding block
+block-files l p =
+    let a : 32 * p + 8 - 32 * p ≡ 8 = omega arith in
+    let b : 32 * p + 32 - (32 * p + 8) ≡ 24 = omega arith in
+    let i : slot p 0 ≡ 32 * p = omega arith in
+    rw (a, b, i, take-add 8 24 (drop (32 * p) l), filesIn-append, drop-drop 8 (32 * p) l)

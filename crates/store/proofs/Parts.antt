@@ -31,3 +31,7 @@ part-past a n w = take-past n (drop a w)
 pub part-length : (a n : ℕ) (w : List ℕ) → a + n ≤ length w → length (part a n w) ≡ n
 unfolding part
 part-length a n w h = simp (length-take, length-drop) (omega arith)
+
+pub part-most : (a n : ℕ) (w : List ℕ) → length (part a n w) ≤ n
+unfolding part
+part-most a n w = simp length-take (omega arith)

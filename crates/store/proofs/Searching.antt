@@ -1,43 +1,25 @@
 -- The search for the reach: each process is gone through once.
-use Prim.Native.Nat.{ℕ, _+_, _*_, _%_, _^_, _<_}
+use Prim.Native.Nat.{ℕ, _+_, _/_, _%_, _^_, _<_}
 use native.Mathlib.Omega.{arith}
 use native.Mathlib.Nat.{mod-eq-of-lt}
 use native.Mathlib.Decide.{ℕ-discrete}
 use mathlib.Core.Path.{_≡_, refl, sym, ap, _∙_}
-use mathlib.Core.Logic.{⊎-elim}
-use mathlib.Core.Bool.{true, false, not, _&&_}
+use mathlib.Core.Bool.{Bool, true, false, not, _&&_, _||_}
 use mathlib.Core.List.{List}
 use lib.Dec.{eqb, ltb}
-use lib.Bits.{or-zero-l}
-use lib.ListN.{getD}
-use borrow.Author.Tests.{ltb-true, lt-ltb, eqb-true, eq-eqb, ne-eqb}
-use Rattle.sets.specs.Sets.{has, only, bit, thoseFrom, those, without, _∪_, _∩_, count, lowest}
-use Rattle.sets.proofs.Members.{union-has, inter-has, only-has, none-has, those-has, without-has, without-lt, union-lt, only-lt, has-lt, some-member, lowest-has, count-part, count-le}
+use lib.ListN.{getD, length}
+use lib.Pow.{shr-shr}
+use borrow.Author.Tests.{lt-ltb, eqb-true, eq-eqb, ne-eqb}
+use Rattle.sets.specs.Sets.{has, only, bit, thoseFrom, those, without, _∪_, _∩_, count, lowest, unionOf}
+use Rattle.sets.proofs.Members.{union-has, inter-has, inter-lt, only-has, none-has, those-has, without-lt, without-le, without-part, without-other, union-lt, only-lt, has-below, lowest-has, count-less, member, turn-below}
+use Rattle.sets.proofs.Unions.{none-union, unionOf-part}
 use Rattle.flow.specs.Box.{containerOf, feedersOf, feeds}
-use Rattle.flow.specs.Links.{linked, Reaches, here, onward, reach}
-use Rattle.flow.proofs.Bools.{or-elim, or-l, or-r, and-l, and-r, and-i, by, no-both, and-false-l}
+use Rattle.flow.specs.Links.{linked, Reaches, here, onward, meets, reach}
+use Rattle.flow.proofs.Bools.{or-elim, or-l, or-r, and-l, and-r, and-i, by, no-both, or-false-l, or-false-r, or-false-i, and-false-l}
 use Rattle.flow.proofs.Reach.{link-cases, link-in, link-out, is-reach}
+use Rattle.flow.proofs.Meets.{meets-of, meets-at}
+use Rattle.store.specs.Search.{fedFrom, comesNext, Finds}
 use Rattle.store.proofs.Spreading.{links}
-
--- process p and the containers of its row
-abbrev pub near : List ℕ → ℕ → ℕ
-near rows p = getD rows p 0 ∪ only (containerOf p % 64)
-
--- seen: what is known to be in the reach of u. left: the processes not gone through. todo: of these, those not tried since seen last grew
-pub record Search (feeders fed : List ℕ) (u seen left todo : ℕ) : Type 0 where
-  pub fits : seen < 2 ^ 64
-  pub start : has seen u ≡ true
-  pub leads : (v : ℕ) → has seen v ≡ true → Reaches (links feeders fed) u v
-  pub small : left < 2 ^ 64
-  pub short : todo < 2 ^ 64
-  pub range : (p : ℕ) → has left p ≡ true → p < 16
-  pub part : (p : ℕ) → has todo p ≡ true → has left p ≡ true
-  pub gone : (p : ℕ) → p < 16 → has left p ≡ false → (v : ℕ) → has (near fed p) v ≡ true → has seen v ≡ true
-  pub quiet : (p : ℕ) → has left p ≡ true → has todo p ≡ false → seen ∩ near feeders p ≡ 0
-
--- tests to come, at most
-abbrev pub tries : ℕ → ℕ → ℕ
-tries left todo = 65 * count left + count todo
 
 -- ---- members
 in-l : (x y i : ℕ) → has x i ≡ true → has (x ∪ y) i ≡ true
@@ -52,146 +34,190 @@ in-one i = only-has i i ∙ eq-eqb i i refl
 in-cases : (x y i : ℕ) {P : Type 0} → (has x i ≡ true → P) → (has y i ≡ true → P) → has (x ∪ y) i ≡ true → P
 in-cases x y i f g h = or-elim (has x i) (has y i) f g (sym (union-has x y i) ∙ h)
 
-module _ (rows : List ℕ) (p : ℕ) (hp : p < 16) where
-  near-own : has (near rows p) (containerOf p) ≡ true
-  near-own = let e : containerOf p % 64 ≡ containerOf p = mod-eq-of-lt (omega arith) in rw e (in-r (getD rows p 0) _ (containerOf p) (in-one (containerOf p)))
-
-  near-cases : (v : ℕ) {P : Type 0} → (has (getD rows p 0) v ≡ true → P) → (containerOf p ≡ v → P) → has (near rows p) v ≡ true → P
-  near-cases v a b =
-      let e : containerOf p % 64 ≡ containerOf p = mod-eq-of-lt (omega arith) in
-      rw e (in-cases (getD rows p 0) (only (containerOf p)) v a (λ k. b (eqb-true (containerOf p) v (sym (only-has (containerOf p) v) ∙ k))))
-
 no-common : (x y i : ℕ) {P : Type 0} → x ∩ y ≡ 0 → has x i ≡ true → has y i ≡ true → P
 no-common x y i e h k = no-both (inter-has x y i ∙ and-i (has x i) _ h k) (ap (λ (z : ℕ). has z i) e ∙ none-has i)
 
-module _ (x p : ℕ) (hp : p < 64) where
-  without-part : (q : ℕ) → has (without x p) q ≡ true → has x q ≡ true
-  without-part q h = and-l _ (not (eqb q p)) (sym (without-has x p q (has-lt (without x p) q (without-lt x p) h)) ∙ h)
+-- ---- the first process of a set that f holds of: todo is what is left to try
+pub record Seek (f : ℕ → Bool) (left todo : ℕ) : Type 0 where
+  pub small : todo < 65536
+  pub part : (p : ℕ) → has todo p ≡ true → has left p ≡ true
+  pub rest : (p : ℕ) → has left p ≡ true → has todo p ≡ false → f p ≡ false
 
-  without-out : has (without x p) p ≡ false
-  without-out = by (has (without x p) p) (λ h. no-both (and-r (has x p) _ (sym (without-has x p p hp) ∙ h)) (ap not (eq-eqb p p refl))) (λ h. h)
+pub seek-start : (f : ℕ → Bool) (left : ℕ) → left < 65536 → Seek f left left
+seek-start f left h = record { small = h; part = λ p m. m; rest = λ p m n. no-both m n }
 
-  without-other : (q : ℕ) → q < 64 → (q ≡ p → ⊥) → has (without x p) q ≡ false → has x q ≡ false
-  without-other q l d h = and-false-l (has x q) (not (eqb q p)) (ap not (ne-eqb q p d)) (sym (without-has x p q l) ∙ h)
+pub seek-end : {f : ℕ → Bool} {left todo : ℕ} → Seek f left todo → todo ≡ 0 → Finds f left 64
+seek-end s e = record { found = λ d. absurd (d refl); none = λ q p m. s .rest p m (ap (λ (x : ℕ). has x p) e ∙ none-has p) }
 
-  without-less : x < 2 ^ 64 → has x p ≡ true → count (without x p) < count x
-  without-less hx h =
-      ⊎-elim (λ e. no-both h (ap (λ (z : ℕ). has z p) (sym e) ∙ without-out)) (λ l. l) (count-part (without x p) x (without-lt x p) hx without-part)
+module _ {f : ℕ → Bool} {left todo : ℕ} (s : Seek f left todo) (more : todo ≡ 0 → ⊥) (p : ℕ) (is : p ≡ lowest todo) where
+  tried : has todo p ≡ true
+  tried = member todo (omega (arith, s .small)) more p is
 
--- ---- all processes
+  pub seek-below : p < 16
+  seek-below = has-below 16 todo p (s .small) tried
+
+  pub seek-hit : f p ≡ true → Finds f left p
+  seek-hit e = record { found = λ d. (s .part p tried, e); none = λ q. absurd (let z : ⊥ = omega (arith, seek-below) in z) }
+
+  pub seek-miss : f p ≡ false → (later : ℕ) → later ≡ without todo (p % 64) → Seek f left later
+  seek-miss e later g =
+      rw (g, mod-eq-of-lt (wide))
+      (record {
+        small = omega (arith, without-le todo p (omega (arith, s .small)) wide, s .small);
+        part = λ q m. s .part q (without-part todo p q m);
+        rest = λ q m n. go q m n (ℕ-discrete q p);
+      })
+    where
+      wide : p < 64
+      wide = omega (arith, seek-below)
+
+      go : (q : ℕ) → has left q ≡ true → has (without todo p) q ≡ false → Dec (q ≡ p) → f q ≡ false
+      go q m n (yes d) = rw d e
+      go q m n (no d) = by (has todo q) (λ k. no-both (without-other todo p q (omega (arith, has-below 16 todo q (s .small) k)) d ∙ k) n) (λ k. s .rest q m k)
+
+-- ---- the process that comes next
+shifted : (x p : ℕ) → has (x / 2 ^ 8) p ≡ has x (containerOf p)
+unfolding has
+shifted x p = ap (λ (n : ℕ). eqb (n % 2) 1) (shr-shr x 8 p)
+
+-- the processes of the set left that are in the set x
+abbrev ownOf : ℕ → ℕ → ℕ
+ownOf x left = (x / 2 ^ 8) ∩ left
+
+module _ (feeders : List ℕ) (x left : ℕ) where
+  own-has : (p : ℕ) → has (ownOf x left) p ≡ (has x (containerOf p) && has left p)
+  own-has p = inter-has (x / 2 ^ 8) left p ∙ rw (shifted x p) refl
+
+  -- one is in the set
+  module _ (fits : x < 2 ^ 64) (more : ownOf x left ≡ 0 → ⊥) (p : ℕ) (is : p ≡ lowest (ownOf x left)) where
+    own-lt : ownOf x left < 2 ^ 64
+    own-lt = inter-lt (x / 2 ^ 8) left (omega arith)
+
+    pub own-below : p < 64
+    own-below = turn-below _ own-lt more p is
+
+    pub next-own : Finds (comesNext feeders x) left p
+    next-own =
+        let m : (has x (containerOf p) && has left p) ≡ true = sym (own-has p) ∙ member _ own-lt more p is in
+        record {
+          found = λ d. (and-r (has x (containerOf p)) _ m, or-l (has x (containerOf p)) _ (and-l _ (has left p) m));
+          none = λ q. absurd (let z : ⊥ = omega (arith, own-below) in z);
+        }
+
+  module _ (e : ownOf x left ≡ 0) where
+    not-in : (p : ℕ) → has left p ≡ true → has x (containerOf p) ≡ false
+    not-in p m = and-false-l _ (has left p) m (sym (own-has p) ∙ ap (λ (z : ℕ). has z p) e ∙ none-has p)
+
+    -- none is, and nothing in the set feeds a process
+    pub next-none : length feeders ≡ 16 → left < 65536 → x ∩ unionOf feeders ≡ 0 → Finds (comesNext feeders x) left 64
+    next-none long small calm =
+        record { found = λ d. absurd (d refl); none = λ q p m. or-false-i _ _ (not-in p m) (by (fedFrom feeders x p) (λ k. meeting p m (meets-at x _ k)) (λ k. k)) }
+      where
+        meeting : (p : ℕ) → has left p ≡ true → (i : ℕ) × (has x i ≡ true) × (has (getD feeders p 0) i ≡ true) → fedFrom feeders x p ≡ false
+        meeting p m w =
+            let k : p < 16 = has-below 16 left p small m in
+            no-common x (unionOf feeders) (w .0) calm (w .1) (unionOf-part feeders p (w .0) (omega arith) (w .2))
+
+    -- none is, but one may be fed
+    pub next-fed : (p : ℕ) → Finds (fedFrom feeders x) left p → Finds (comesNext feeders x) left p
+    next-fed p s =
+        record {
+          found = λ d. (s .found d .0, or-r (has x (containerOf p)) _ (s .found d .1));
+          none = λ q k m. or-false-i _ _ (not-in k m) (s .none q k m);
+        }
+
+-- ---- the search
+-- process p and the containers of its row
+abbrev pub near : List ℕ → ℕ → ℕ
+near rows p = getD rows p 0 ∪ only (containerOf p % 64)
+
+module _ (rows : List ℕ) (p : ℕ) (hp : p < 16) where
+  own-number : containerOf p % 64 ≡ containerOf p
+  own-number = mod-eq-of-lt (omega arith)
+
+  near-own : has (near rows p) (containerOf p) ≡ true
+  near-own = rw own-number (in-r (getD rows p 0) _ (containerOf p) (in-one (containerOf p)))
+
+  near-cases : (v : ℕ) {P : Type 0} → (has (getD rows p 0) v ≡ true → P) → (containerOf p ≡ v → P) → has (near rows p) v ≡ true → P
+  near-cases v a b = rw own-number (in-cases (getD rows p 0) (only (containerOf p)) v a (λ k. b (eqb-true (containerOf p) v (sym (only-has (containerOf p) v) ∙ k))))
+
+-- seen: what is known to be in the reach of u. left: the processes not gone through
+pub record Search (feeders fed : List ℕ) (u seen left : ℕ) : Type 0 where
+  pub fits : seen < 2 ^ 64
+  pub start : has seen u ≡ true
+  pub leads : (v : ℕ) → has seen v ≡ true → Reaches (links feeders fed) u v
+  pub small : left < 65536
+  pub gone : (p : ℕ) → p < 16 → has left p ≡ false → (v : ℕ) → has (near fed p) v ≡ true → has seen v ≡ true
+
+-- all processes
 sixteen : 65535 ≡ those (λ p. ltb p 16)
 unfolding those thoseFrom bit
 sixteen = refl
 
-sixteen-has : (p : ℕ) → p < 64 → has 65535 p ≡ ltb p 16
-sixteen-has p h = ap (λ (x : ℕ). has x p) sixteen ∙ those-has (λ p. ltb p 16) p h
+sixteen-has : (p : ℕ) → p < 16 → has 65535 p ≡ true
+sixteen-has p h = ap (λ (x : ℕ). has x p) sixteen ∙ those-has (λ p. ltb p 16) p (omega arith) ∙ lt-ltb p 16 h
 
-alone : (u : ℕ) → u < 64 → 0 ∪ only (u % 64) ≡ only u
-unfolding _∪_
-alone u h = or-zero-l _ ∙ ap only (mod-eq-of-lt h)
-
--- ---- the search
-pub search-none : (f g : List ℕ) (u : ℕ) → u < 64 → Search f g u (0 ∪ only (u % 64)) 65535 65535
-search-none f g u h =
-    rw (alone u h)
+pub search-start : (f g : List ℕ) (u : ℕ) → u < 64 → Search f g u (0 ∪ only (u % 64)) 65535
+search-start f g u h =
+    rw (none-union, mod-eq-of-lt h)
     (record {
       fits = only-lt u h;
       start = in-one u;
       leads = λ v k. rw (← (eqb-true u v (sym (only-has u v) ∙ k))) here;
       small = omega arith;
-      short = omega arith;
-      range = λ p k. ltb-true p 16 (sym (sixteen-has p (has-lt 65535 p (omega arith) k)) ∙ k);
-      part = λ p k. k;
-      gone = λ p hp k. no-both (sixteen-has p (omega arith) ∙ lt-ltb p 16 hp) k;
-      quiet = λ p k l. no-both k l;
+      gone = λ p hp k. no-both (sixteen-has p hp) k;
     })
 
-module _ {f g : List ℕ} {u seen left todo : ℕ} (s : Search f g u seen left todo) where
-  -- nothing left to try
-  pub search-over : u < 64 → ((p : ℕ) → getD g p 0 < 2 ^ 64) → todo ≡ 0 → seen ≡ reach (links f g) u
+module _ {f g : List ℕ} {u seen left : ℕ} (s : Search f g u seen left) where
+  -- nothing comes next
+  pub search-over : u < 64 → ((p : ℕ) → getD g p 0 < 2 ^ 64) → (p : ℕ) → p ≡ 64 → Finds (comesNext f seen) left p → seen ≡ reach (links f g) u
   unfolding feedersOf feeds
-  search-over h bound e = is-reach (links f g) bound u seen h (s .fits) (s .start) (s .leads) (λ v w. shut v w)
+  search-over h bound p e w = is-reach (links f g) bound u seen h (s .fits) (s .start) (s .leads) (λ v w. shut v w)
     where
-      calm : (p : ℕ) → has left p ≡ true → seen ∩ near f p ≡ 0
-      calm p k = s .quiet p k (ap (λ (x : ℕ). has x p) e ∙ none-has p)
+      calm : (p : ℕ) → has left p ≡ true → comesNext f seen p ≡ false
+      calm = w .none e
 
       shut : (v w : ℕ) → has seen v ≡ true → linked (links f g) v w ≡ true → has seen w ≡ true
       shut v w m =
           link-cases (links f g) v w
           (λ p hp q k. by (has left p)
-          (λ l. no-common seen (near f p) v (calm p l) m (in-l (getD f p 0) _ v k))
+          (λ l. no-both (meets-of seen (getD f p 0) v m k) (or-false-r (has seen (containerOf p)) _ (calm p l)))
           (λ l. rw q (s .gone p hp l (containerOf p) (near-own g p hp))))
           (λ p hp q k. by (has left p)
-          (λ l. no-common seen (near f p) (containerOf p) (calm p l) (rw q at m) (near-own f p hp))
+          (λ l. no-both (rw q at m) (or-false-l _ (fedFrom f seen p) (calm p l)))
           (λ l. s .gone p hp l w (in-l (getD g p 0) _ w k)))
 
-  pub next-in : (todo ≡ 0 → ⊥) → has todo (lowest todo) ≡ true
-  next-in some = lowest-has todo (s .short) (omega arith)
-
-  module _ (p : ℕ) (next : has todo p ≡ true) where
+  -- process p comes next: it and what it feeds are in the reach
+  module _ (p : ℕ) (w : (has left p ≡ true) × (comesNext f seen p ≡ true)) where
     pub next-lt : p < 16
-    next-lt = s .range p (s .part p next)
+    next-lt = has-below 16 left p (s .small) (w .0)
 
     same : p % 64 ≡ p
     same = mod-eq-of-lt (omega (arith, next-lt))
 
-    wide : p < 64
-    wide = omega (arith, next-lt)
+    next-leads : Reaches (links f g) u (containerOf p)
+    unfolding feedersOf
+    next-leads =
+        or-elim (has seen (containerOf p)) (fedFrom f seen p) (s .leads (containerOf p))
+        (λ k. let i = meets-at seen (getD f p 0) k in onward (s .leads (i .0) (i .1)) (link-in (links f g) p next-lt (i .0) (i .2))) (w .1)
 
-    -- process p is neither in the set nor fed from it
-    pub search-miss : seen ∩ near f p ≡ 0 → Search f g u seen left (without todo (p % 64))
-    search-miss e =
-        rw same
+    pub search-more : getD g p 0 < 2 ^ 64 → (seen′ left′ : ℕ) → seen′ ≡ seen ∪ near g p → left′ ≡ without left (p % 64) → Search f g u seen′ left′
+    unfolding feeds
+    search-more bound seen′ left′ e e′ =
+        rw (e, e′, same)
         (record {
-          fits = s .fits;
-          start = s .start;
-          leads = s .leads;
-          small = s .small;
-          short = without-lt todo p;
-          range = s .range;
-          part = λ q k. s .part q (without-part todo p wide q k);
-          gone = s .gone;
-          quiet = λ q k l. go q k l (ℕ-discrete q p);
+          fits = union-lt seen _ (s .fits) (union-lt _ _ bound (only-lt (containerOf p % 64) (omega arith)));
+          start = in-l seen _ u (s .start);
+          leads = λ v.
+              in-cases seen (near g p) v (s .leads v)
+              (near-cases g p next-lt v (λ k. onward next-leads (link-out (links f g) p next-lt v k)) (λ k. rw k at next-leads));
+          small = omega (arith, without-le left p (omega (arith, s .small)) (omega (arith, next-lt)), s .small);
+          gone = λ q hq k. go q hq k (ℕ-discrete q p);
         })
       where
-        go : (q : ℕ) → has left q ≡ true → has (without todo p) q ≡ false → Dec (q ≡ p) → seen ∩ near f q ≡ 0
-        go q k l (yes d) = rw d e
-        go q k l (no d) = s .quiet q k (without-other todo p wide q (has-lt left q (s .small) k) d l)
+        go : (q : ℕ) → q < 16 → has (without left p) q ≡ false → Dec (q ≡ p) → (v : ℕ) → has (near g q) v ≡ true → has (seen ∪ near g p) v ≡ true
+        go q hq k (yes d) v m = in-r seen _ v (rw d at m)
+        go q hq k (no d) v m = in-l seen _ v (s .gone q hq (sym (without-other left p q (omega arith) d) ∙ k) v m)
 
-    pub miss-less : tries left (without todo (p % 64)) < tries left todo
-    miss-less = rw same (omega (arith, without-less todo p wide (s .short) next))
-
-    -- it is: it and what it feeds are in the reach
-    module _ (bound : (q : ℕ) → getD g q 0 < 2 ^ 64) (e : seen ∩ near f p ≡ 0 → ⊥) where
-      next-leads : Reaches (links f g) u (containerOf p)
-      unfolding feedersOf
-      next-leads =
-          let w = some-member (seen ∩ near f p) (omega arith) in
-          let m : (has seen (w .0) && has (near f p) (w .0)) ≡ true = sym (inter-has seen (near f p) (w .0)) ∙ w .1 in
-          let l = s .leads (w .0) (and-l _ (has (near f p) (w .0)) m) in
-          near-cases f p next-lt (w .0) (λ k. onward l (link-in (links f g) p next-lt (w .0) k)) (λ k. rw k l) (and-r (has seen (w .0)) _ m)
-
-      pub search-hit : Search f g u (seen ∪ near g p) (without left (p % 64)) (without left (p % 64))
-      unfolding feeds
-      search-hit =
-          rw same
-          (record {
-            fits = union-lt seen _ (s .fits) (union-lt _ _ (bound p) (only-lt (containerOf p % 64) (omega arith)));
-            start = in-l seen _ u (s .start);
-            leads = λ v.
-                in-cases seen (near g p) v (s .leads v)
-                (near-cases g p next-lt v (λ k. onward next-leads (link-out (links f g) p next-lt v k)) (λ k. rw k at next-leads));
-            small = without-lt left p;
-            short = without-lt left p;
-            range = λ q k. s .range q (without-part left p wide q k);
-            part = λ q k. k;
-            gone = λ q hq k. go q hq k (ℕ-discrete q p);
-            quiet = λ q k l. no-both k l;
-          })
-        where
-          go : (q : ℕ) → q < 16 → has (without left p) q ≡ false → Dec (q ≡ p) → (v : ℕ) → has (near g q) v ≡ true → has (seen ∪ near g p) v ≡ true
-          go q hq k (yes d) v m = in-r seen _ v (rw d at m)
-          go q hq k (no d) v m = in-l seen _ v (s .gone q hq (without-other left p wide q (omega arith) d k) v m)
-
-    pub hit-less : tries (without left (p % 64)) (without left (p % 64)) < tries left todo
-    hit-less = rw same (omega (arith, without-less left p wide (s .small) (s .part p next), count-le (without left p) (without-lt left p)))
+    pub more-less : (left′ : ℕ) → left′ ≡ without left (p % 64) → count left′ < count left
+    more-less left′ e = rw (e, same) (omega (arith, count-less left p (omega (arith, s .small)) (w .0)))

@@ -3,8 +3,8 @@ use Prim.Native.Nat.{ℕ, _+_, _-_, _*_, _≤_, _<_, _^_}
 use native.Mathlib.Omega.{arith}
 use native.Mathlib.Decide.{decLt}
 use mathlib.Core.Path.{_≡_, refl, sym, ap, subst, _∙_}
-use mathlib.Core.List.{List, _++_}
-use lib.ListN.{length, getD, take, drop}
+use mathlib.Core.List.{List, [], _++_}
+use lib.ListN.{length, getD, take, drop, drop-of-length-le}
 use lib.Seq.{getD-take, length-take-le, drop-drop, drop-append-seam, take-append-seam}
 use borrow.Rule.Slice.PartMut.{putMid, postOf, take-put, drop-put}
 use Rattle.flow.specs.Box.{slot, feedersOf, feeds}
@@ -76,10 +76,7 @@ module _ (w l d n : List ℕ) (long : length w ≡ 97) where
   unfolding view part
   items-cleared r e = made _ (cleared-length _ r) e
 
--- the descriptors of process p as a part of the table
-pub block-part : (l : List ℕ) (p : ℕ) → take (32 * p + 32 - 32 * p) (drop (32 * p) l) ≡ block l p
+-- past the last process there are no descriptors
+pub block-past : (l : List ℕ) (p : ℕ) → length l ≤ 32 * p → block l p ≡ []
 unfolding block
-block-part l p =
-    let k : 32 * p + 32 - 32 * p ≡ 32 = omega arith in
-    let i : 32 * p ≡ slot p 0 = omega arith in
-    ap (λ (n : ℕ). take n (drop (32 * p) l)) k ∙ ap (λ (n : ℕ). take 32 (drop n l)) i
+block-past l p h = let k : length l ≤ slot p 0 = omega arith in ap (take 32) (drop-of-length-le l k)

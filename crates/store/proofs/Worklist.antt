@@ -12,37 +12,13 @@ use lib.ListN.{getD, set, length, length-set}
 use lib.Seq.{getD-set-same, getD-set-other}
 use borrow.Author.Tests.{eq-eqb, ne-eqb}
 use Rattle.sets.specs.Sets.{has, those, without, lowest, count, _∪_}
-use Rattle.sets.proofs.Members.{has-lt, lowest-has, without-has, without-lt, none-has, count-part}
+use Rattle.sets.proofs.Members.{itself, without-lt, none-has}
 use Rattle.flow.specs.Lists.{table}
 use Rattle.flow.specs.Links.{given}
 use Rattle.flow.proofs.Bools.{and-l, no-both, chosen-l, chosen-r}
 use Rattle.flow.proofs.TableLaws.{table-at, table-length, is-table}
 use Rattle.store.specs.Maps.{cleared}
-
--- ---- a set without v, at v and elsewhere
-pub without-at : (r v i : ℕ) → i < 64 → i ≡ v → has (without r v) i ≡ false
-without-at r v i k d = without-has r v i k ∙ ap (λ (b : Bool). has r i && not b) (eq-eqb i v d) ∙ and-comm (has r i) false
-
-pub without-other : (r v i : ℕ) → i < 64 → (i ≡ v → ⊥) → has (without r v) i ≡ has r i
-without-other r v i k d = without-has r v i k ∙ ap (λ (b : Bool). has r i && not b) (ne-eqb i v d) ∙ and-comm (has r i) true
-
--- ---- one turn: v is the lowest member of those left
-module _ (left : ℕ) (small : left < 2 ^ 64) (more : left ≡ 0 → ⊥) (v : ℕ) (is : v ≡ lowest left) where
-  pub member : has left v ≡ true
-  member = rw is (lowest-has left small (omega (arith, more)))
-
-  pub turn-below : v < 64
-  turn-below = has-lt left v small member
-
-  itself : v % 64 ≡ v
-  itself = mod-eq-of-lt turn-below
-
-  pub turn-fewer : (later : ℕ) → later ≡ without left (v % 64) → count later < count left
-  turn-fewer later e =
-      rw (e, itself)
-      (⊎-elim (λ q. no-both (ap (λ (x : ℕ). has x v) q ∙ member) (without-at left v v turn-below refl)) (λ q. q)
-      (count-part (without left v) left (without-lt left v) small
-      (λ i m. and-l _ _ (sym (without-has left v i (has-lt _ i (without-lt left v) m)) ∙ m))))
+pub use Rattle.sets.proofs.Members.{without-at, without-other, member, turn-below, turn-fewer}
 
 -- ---- the loop: each member of the set r has its cell y replaced by f y
 abbrev pub mapped : (ℕ → ℕ) → List ℕ → ℕ → List ℕ

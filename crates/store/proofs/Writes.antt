@@ -4,9 +4,10 @@ use native.Mathlib.Omega.{arith}
 use mathlib.Core.Path.{_≡_, refl, sym, ap, _∙_}
 use mathlib.Core.List.{List}
 use lib.ListN.{length, getD, set, take, drop}
-use lib.Seq.{take-set-lt, take-set-le, drop-set-lt, drop-set-add, getD-set-same, getD-set-other}
+use lib.Seq.{take-set-lt, take-set-le, drop-set-lt, drop-set-add, getD-set-same, getD-set-other, set-out}
 use Rattle.flow.specs.Calls.{withLive, withLinks}
 use Rattle.store.specs.Maps.{part, view, withTables}
+use Rattle.store.proofs.Parts.{part-most}
 
 module _ (a n : ℕ) (w : List ℕ) where
   pub part-in : (i v : ℕ) → i < n → part a n (set w (a + i) v) ≡ set (part a n w) i v
@@ -52,4 +53,20 @@ module _ (w d n : List ℕ) where
               names = n;
             };
         items = (part-after 1 64 (set w (65 + i) x) (81 + i) y (omega arith) ∙ part-after 1 64 w (65 + i) x (omega arith)) k;
+      }
+
+  -- past the last process nothing is stored
+  pub links-past : (i x y : ℕ) → 16 ≤ i → view w d n ≡ withTables (view w d n) (withLinks (view w d n .tables) i x y)
+  unfolding view withLinks
+  links-past i x y h =
+      λ k. record {
+        tables =
+            record {
+              live = getD w 0 0;
+              feeders = sym (set-out (part 65 16 w) i x (omega (arith, part-most 65 16 w))) k;
+              fed = sym (set-out (part 81 16 w) i y (omega (arith, part-most 81 16 w))) k;
+              descriptors = d;
+              names = n;
+            };
+        items = part 1 64 w;
       }

@@ -63,11 +63,6 @@ abbrev pub mapsAfter : Lent → Lent → Lent → Maps
 mapsAfter words descriptors names = view (words .exit .now) (descriptors .exit .now) (names .exit .now)
 
 -- ---- sets that the code works with
--- the members of all sets of a list
-unfoldable pub unionOf : List ℕ → ℕ
-unionOf [] = 0
-unionOf (x ∷ l) = x ∪ unionOf l
-
 -- the items with those of every container of a set cleared
 unfoldable pub cleared : List ℕ → ℕ → List ℕ
 cleared items x = table containerCount (λ c. elim (has x c) [ true ↦ 0 | false ↦ getD items c 0 ])

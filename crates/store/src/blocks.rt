@@ -1,8 +1,9 @@
 // The descriptors of a process: 32 in a row.
 use crate::lookups::CLOSED;
 use crate::numbers::Process;
-ghost use Prim.Native.Nat.{_%_, _<_};
+ghost use Prim.Native.Nat.{_%_};
 ghost use mathlib.Core.Path.{_≡_};
+ghost use mathlib.Core.Bool.{false};
 ghost use lib.ListN.{replicate};
 ghost use Rattle.flow.specs.Box.{descriptorCount, closed};
 ghost use Rattle.flow.specs.Calls.{putBlock, block};
@@ -45,8 +46,19 @@ pub fn file_set(e: u8) -> u64
     0
 }
 
-// The files and pipes that stand in a table.
-fn files_in(table: &[u8]) -> u64
+// Whether an entry of a table is a container's number: where none is, none is a file's.
+fn any_low(table: &[u8]) -> bool
+    ensures { λ r. ⌜ (r ≡ false → filesIn (now (table .entry)) ≡ 0) ⌝ }
+{
+    let mut found = 0u8;
+    for i in 0..table.len() {
+        found = found | ((table[i] < 64) as u8);
+    }
+    found != 0
+}
+
+// The files and pipes that stand in a table, entry by entry.
+fn files_each(table: &[u8]) -> u64
     ensures { λ r. ⌜ r ≡ filesIn (now (table .entry)) ⌝ }
 {
     let mut x = 0u64;
@@ -56,12 +68,24 @@ fn files_in(table: &[u8]) -> u64
     x
 }
 
-// The files and pipes that the descriptors of process p lead to.
+// The files and pipes that stand in a table.
+fn files_in(table: &[u8]) -> u64
+    ensures { λ r. ⌜ r ≡ filesIn (now (table .entry)) ⌝ }
+{
+    if any_low(table) {
+        return files_each(table);
+    }
+    0
+}
+
+// The files and pipes that the descriptors of process p lead to. Most processes have open none but the first few.
 pub fn block_files(descriptors: &[u8; 512], p: Process) -> u64
-    requires { ⌜ p .0 < 16 ⌝ }
     ensures { λ r. ⌜ r ≡ filesIn (block (now (descriptors .entry)) (p .0)) ⌝ }
 {
     let all: &[u8] = descriptors;
-    let at = 32 * (p.0 as usize);
-    files_in(&all[at..at + 32])
+    if p.0 < 16 {
+        let at = 32 * (p.0 as usize);
+        return files_in(&all[at..at + 8]) | files_in(&all[at + 8..at + 32]);
+    }
+    0
 }

@@ -1,11 +1,11 @@
 // Stores: of the live processes, of one process's links, of one entry, and of items.
 use crate::Plan;
+use crate::gifts::empty;
+use crate::gifts::give;
 use crate::numbers::Descriptor;
 use crate::numbers::Name;
 use crate::numbers::Process;
-use crate::spread::empty;
-use crate::spread::give;
-ghost use Prim.Native.Nat.{ℕ, _<_};
+ghost use Prim.Native.Nat.{ℕ};
 ghost use mathlib.Core.Path.{_≡_};
 ghost use mathlib.Core.List.{List};
 ghost use lib.ListN.{set, length};
@@ -13,24 +13,22 @@ ghost use Rattle.flow.specs.Box.{slot};
 ghost use Rattle.flow.specs.Calls.{withLive, withLinks};
 ghost use Rattle.store.specs.Maps.{view, withTables, withItems, cleared, itemsBy};
 
-// As a slice the words have their length, which the proofs use. Nothing is done.
-fn size(words: &[u64]) {}
-
 pub fn set_live(words: &mut [u64; 97], x: u64)
     ensures { λ _. ⌜ ((d n : List ℕ) → let m = view (now (words .entry)) d n in view (now (words .exit)) d n ≡ withTables m (withLive (m .tables) x)) ⌝ }
 {
-    size(words);
-    words[0] = x;
+    let cells: &mut [u64] = words;
+    cells[0] = x;
 }
 
 // The containers that feed process p, and those that it feeds.
 pub fn set_links(words: &mut [u64; 97], p: Process, x: u64, y: u64)
-    requires { ⌜ p .0 < 16 ⌝ }
     ensures { λ _. ⌜ ((d n : List ℕ) → let m = view (now (words .entry)) d n in view (now (words .exit)) d n ≡ withTables m (withLinks (m .tables) (p .0) x y)) ⌝ }
 {
-    let i = p.0 as usize;
-    words[65 + i] = x;
-    words[81 + i] = y;
+    if p.0 < 16 {
+        let i = p.0 as usize;
+        words[65 + i] = x;
+        words[81 + i] = y;
+    }
 }
 
 fn set_entry(table: &mut [u8], i: usize, e: u8)

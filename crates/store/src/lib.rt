@@ -5,6 +5,7 @@
 //   names        128
 pub mod blocks;
 pub mod cells;
+mod gifts;
 pub mod lookups;
 pub mod numbers;
 pub mod spread;

@@ -7,11 +7,11 @@ ghost use Prim.Native.Nat.{ℕ};
 ghost use mathlib.Core.Path.{_≡_};
 ghost use mathlib.Core.List.{List};
 ghost use lib.ListN.{getD, length};
-ghost use Rattle.sets.specs.Sets.{has, _∪_};
+ghost use Rattle.sets.specs.Sets.{has, _∪_, unionOf};
 ghost use Rattle.flow.specs.Lists.{isIn};
 ghost use Rattle.flow.specs.Box.{isTarget, slot, closed};
 ghost use Rattle.flow.specs.Links.{used, isFed};
-ghost use Rattle.store.specs.Maps.{part, view, unionOf, mapsBefore};
+ghost use Rattle.store.specs.Maps.{part, view, mapsBefore};
 
 // The mark of a closed descriptor and of an unbound name.
 pub const CLOSED: u8 = 255;
@@ -121,23 +121,12 @@ fn stands(table: &[u8], c: u8) -> bool
     found != 0
 }
 
-// The members of all sets of a slice.
-fn union_of(rows: &[u64]) -> u64
-    ensures { λ r. ⌜ r ≡ unionOf (now (rows .entry)) ⌝ }
-{
-    let mut x = 0u64;
-    for i in 0..rows.len() {
-        x = x | rows[i];
-    }
-    x
-}
-
 // The containers that some process maps.
 fn mapped(words: &[u64]) -> u64
     requires { ⌜ length (now words) ≡ 97 ⌝ }
     ensures { λ r. ⌜ r ≡ unionOf (part 65 16 (now (words .entry))) ∪ unionOf (part 81 16 (now (words .entry))) ⌝ }
 {
-    union_of(&words[65..81]) | union_of(&words[81..97])
+    sets::union_of(&words[65..81]) | sets::union_of(&words[81..97])
 }
 
 // The containers that links lead into.
@@ -145,7 +134,7 @@ fn fed_set(words: &[u64]) -> u64
     requires { ⌜ length (now words) ≡ 97 ⌝ }
     ensures { λ r. ⌜ r ≡ unionOf (part 81 16 (now (words .entry))) ⌝ }
 {
-    union_of(&words[81..97])
+    sets::union_of(&words[81..97])
 }
 
 // Whether a link leads into the file, pipe or device c.

@@ -1,81 +1,67 @@
-// The reach of a container, and gifts to it (document 01, The box).
+// The reach of a container (document 01, The box).
 use crate::numbers::Container;
 ghost use mathlib.Core.Path.{_≡_};
 ghost use mathlib.Core.List.{List};
-ghost use Prim.Native.Nat.{ℕ, _%_, _^_, _<_};
-ghost use lib.ListN.{length, getD, set};
-ghost use Rattle.sets.specs.Sets.{_∪_};
-ghost use Rattle.flow.specs.Links.{reach as reached, given};
-ghost use Rattle.store.specs.Maps.{view, cleared};
+ghost use Prim.Native.Nat.{ℕ, _%_, _<_};
+ghost use lib.ListN.{length};
+ghost use Rattle.sets.specs.Sets.{unionOf};
+ghost use Rattle.flow.specs.Links.{reach as reached};
+ghost use Rattle.store.specs.Maps.{part, view};
+ghost use Rattle.store.specs.Search.{fedFrom, comesNext, Finds};
 
-// What the type says of the words, for the proofs: nothing is done.
-fn bounded(words: [u64; 97])
-    ensures { λ _. ⌜ ((p : ℕ) → getD words p 0 < 2 ^ 64) ⌝ }
-{}
-
-// The container and everything that links lead to from it. Each process is gone through once.
-pub fn reach(words: &[u64; 97], u: Container) -> u64
-    ensures { λ r. ⌜ ((d n : List ℕ) → r ≡ reached (view (now (words .entry)) d n .tables) (u .0 % 64)) ⌝ }
+// The lowest process of the set left that a container of the set x feeds, or 64.
+fn first_fed(feeders: &[u64], left: u64, x: u64) -> u8
+    requires { ⌜ (length (now feeders) ≡ 16) × (left < 65536) ⌝ }
+    ensures { λ r. ⌜ Finds (fedFrom (now (feeders .entry)) x) left r ⌝ }
 {
-    bounded(*words);
-    let at = u.0 % 64;
-    let mut seen = sets::with(0, at);
-    // The processes not gone through, and of these those not tried since seen last grew.
-    let mut left: u64 = 65535;
     let mut todo = left;
     while todo != 0 {
         let p = sets::lowest(todo) as u8;
-        let i = p as usize;
-        if seen & sets::with(words[65 + i], 8 + p) == 0 {
-            todo = sets::without(todo, p);
-            continue;
+        if x & feeders[p as usize] != 0 {
+            return p;
         }
-        seen = seen | sets::with(words[81 + i], 8 + p);
+        todo = sets::without(todo, p);
+    }
+    64
+}
+
+// A process of the set left that is in the set x or fed from it, or 64. Where nothing in x feeds a process no row is tried.
+fn next(words: &[u64], all: u64, left: u64, x: u64) -> u8
+    requires { ⌜ (length (now words) ≡ 97) × (all ≡ unionOf (part 65 16 (now words))) × (left < 65536) ⌝ }
+    ensures { λ r. ⌜ Finds (comesNext (part 65 16 (now (words .entry))) x) left r ⌝ }
+{
+    let own = (x >> 8) & left;
+    if own != 0 {
+        return sets::lowest(own) as u8;
+    }
+    if x & all == 0 {
+        return 64;
+    }
+    first_fed(&words[65..81], left, x)
+}
+
+// Each process is gone through once.
+fn search(words: &[u64], u: u8) -> u64
+    requires { ⌜ (length (now words) ≡ 97) × (u < 64) ⌝ }
+    ensures { λ r. ⌜ ((d n : List ℕ) → r ≡ reached (view (now (words .entry)) d n .tables) u) ⌝ }
+{
+    let all = sets::union_of(&words[65..81]);
+    let mut seen = sets::with(0, u);
+    // The processes not gone through.
+    let mut left: u64 = 65535;
+    loop {
+        let p = next(words, all, left, seen);
+        if p == 64 {
+            return seen;
+        }
+        seen = seen | sets::with(words[81 + p as usize], 8 + p);
         left = sets::without(left, p);
-        todo = left;
-    }
-    seen
-}
-
-// Adds the items x to container v.
-fn give_at(items: &mut [u64], v: u8, x: u64)
-    requires { ⌜ length (now items) ≡ 64 ⌝ }
-    ensures { λ _. ⌜ now (items .exit) ≡ set (now (items .entry)) (v % 64) (getD (now (items .entry)) (v % 64) 0 ∪ x) ⌝ }
-{
-    let i = (v % 64) as usize;
-    items[i] = items[i] | x;
-}
-
-// Adds the items x to every container of the set r.
-pub fn give(items: &mut [u64], r: u64, x: u64)
-    requires { ⌜ length (now items) ≡ 64 ⌝ }
-    ensures { λ _. ⌜ now (items .exit) ≡ given (now (items .entry)) r x ⌝ }
-{
-    let mut left = r;
-    while left != 0 {
-        let v = sets::lowest(left) as u8;
-        give_at(items, v, x);
-        left = sets::without(left, v);
     }
 }
 
-// Empties container v.
-fn empty_at(items: &mut [u64], v: u8)
-    requires { ⌜ length (now items) ≡ 64 ⌝ }
-    ensures { λ _. ⌜ now (items .exit) ≡ set (now (items .entry)) (v % 64) 0 ⌝ }
+// The container and everything that links lead to from it.
+pub fn reach(words: &[u64; 97], u: Container) -> u64
+    ensures { λ r. ⌜ ((d n : List ℕ) → r ≡ reached (view (now (words .entry)) d n .tables) (u .0 % 64)) ⌝ }
 {
-    items[(v % 64) as usize] = 0;
-}
-
-// Empties every container of the set r.
-pub fn empty(items: &mut [u64], r: u64)
-    requires { ⌜ length (now items) ≡ 64 ⌝ }
-    ensures { λ _. ⌜ now (items .exit) ≡ cleared (now (items .entry)) r ⌝ }
-{
-    let mut left = r;
-    while left != 0 {
-        let v = sets::lowest(left) as u8;
-        empty_at(items, v);
-        left = sets::without(left, v);
-    }
+    search(words, u.0 % 64)
 }

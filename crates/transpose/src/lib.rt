@@ -2,14 +2,8 @@
 ghost use mathlib.Core.Path.{_≡_};
 ghost use mathlib.Core.Bool.{true, false};
 ghost use Prim.Native.Nat.{_<_};
-ghost use lib.ListN.{length};
 ghost use Rattle.transpose.specs.Transposed.{transposed};
 ghost use Rattle.transpose.specs.Rounds.{unfit, word, shuffled};
-
-// What the type says of an array, for the proofs: nothing is done.
-fn sized(rows: [u64; 64])
-    ensures { λ _. ⌜ length rows ≡ 64 ⌝ }
-{}
 
 // The even row that two rows give: m has the columns without bit d, n those with it.
 fn low(lo: u64, hi: u64, d: u64, m: u64, n: u64) -> u64
@@ -32,12 +26,12 @@ fn round(rows: &[u64; 64], out: &mut [u64; 64], d: u64, m: u64, n: u64)
     requires { ⌜ (d < 64) × (unfit d m n ≡ false) ⌝ }
     ensures { λ _. ⌜ now (out .exit) ≡ shuffled d (now (rows .entry)) ⌝ }
 {
-    sized(*out);
+    let cells: &mut [u64] = out;
     for i in 0usize..32 {
         let lo = rows[i];
         let hi = rows[i + 32];
-        out[2 * i] = low(lo, hi, d, m, n);
-        out[2 * i + 1] = high(lo, hi, d, m, n);
+        cells[2 * i] = low(lo, hi, d, m, n);
+        cells[2 * i + 1] = high(lo, hi, d, m, n);
     }
 }
 

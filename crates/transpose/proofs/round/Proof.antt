@@ -2,19 +2,22 @@
 use Prim.Native.Nat.{_-_, _*_, _≤_}
 use native.Mathlib.Omega.{arith}
 use mathlib.Core.Path.{_≡_}
+use lib.ListN.{length-set}
 use borrow.Author.Needs.{needs}
 use Rattle.transpose.proofs.Filling.{Filled, filled-none, filled-more, filled-all}
 use Rattle.transpose.proofs.round.Statement.{statement}
 use Rattle.transpose.proofs.round.Tie as tie
 
 abbrev Inv-loop : tie.InvT-loop
-Inv-loop rows out₀ d m n i₀ out i = (i ≤ 32) × Filled d rows (2 * i) out
+Inv-loop rows d m n cells₀ i₀ cells i = (i ≤ 32) × Filled d rows (2 * i) cells
 
 abbrev μ-loop : tie.MeasureT-loop
-μ-loop rows out₀ d m n i₀ out i = 32 - i
+μ-loop rows d m n cells₀ i₀ cells i = 32 - i
 
-loop-holds : tie.Need-loop-holds Inv-loop μ-loop
-loop-holds c = (search needs, filled-none _ _ _ (c .sized .ensures))
+slice-write-cells-2 : tie.Need-slice-write-cells-2 Inv-loop μ-loop
+slice-write-cells-2 c =
+    let b = c .before .before .before .before .before in
+    rw length-set (omega (arith, b .loop .inv .1 .size))
 
 loop-again : tie.Need-loop-again Inv-loop μ-loop
 loop-again c =
@@ -32,8 +35,7 @@ round-spec =
     (tie.spec
     Inv-loop
     μ-loop
-    (λ c κs. search needs)
-    loop-holds
+    (λ c. (search needs, filled-none _ _ _ (search needs)))
     (λ c. search needs)
     (λ c. search needs)
     (λ c. search needs)
@@ -47,7 +49,7 @@ round-spec =
     (λ c. search needs)
     (λ c. search needs)
     (λ c. search needs)
-    (λ c. search needs)
+    slice-write-cells-2
     (λ c. search needs)
     (λ c. search needs)
     loop-again

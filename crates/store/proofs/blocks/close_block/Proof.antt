@@ -27,9 +27,6 @@ module _ (c : tie.After-entries Inv-loop μ-loop) where
   long : length list ≡ 512
   long = search needs
 
-loop-holds : tie.Need-loop-holds Inv-loop μ-loop
-loop-holds c = (search needs, laid-none _ _ _)
-
 slice-write-entries : tie.Need-slice-write-entries Inv-loop μ-loop
 slice-write-entries c =
     let b = c .before .before .before in
@@ -57,7 +54,7 @@ close-block-spec =
     μ-loop
     (λ c. search needs)
     (λ c. search needs)
-    loop-holds
+    (λ c. (search needs, laid-none _ _ _))
     (λ c. search needs)
     slice-write-entries
     (λ c. search needs)

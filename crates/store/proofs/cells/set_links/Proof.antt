@@ -1,11 +1,15 @@
 -- `set_links` stores the links of a process.
-use Rattle.store.proofs.Writes.{links-set}
+use native.Mathlib.Omega.{arith}
+use Rattle.store.proofs.Writes.{links-set, links-past}
 use borrow.Author.Needs.{needs}
 use Rattle.store.proofs.cells.set_links.Statement.{statement}
 use Rattle.store.proofs.cells.set_links.Tie as tie
 
 returns : tie.Need-returns
-returns c = λ d n. links-set _ d n _ _ _ (c .before .pre)
+returns c = λ d n. links-set _ d n _ _ _ (omega arith)
+
+returns-2 : tie.Need-returns-2
+returns-2 c = λ d n. links-past _ d n _ _ _ (omega arith)
 
 pub set-links-spec : {M : Type 1} → statement M
 set-links-spec =
@@ -18,4 +22,5 @@ set-links-spec =
     (λ c. search needs)
     (λ c. search needs)
     (λ c. search needs)
-    returns)
+    returns
+    returns-2)

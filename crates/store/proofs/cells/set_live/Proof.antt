@@ -1,5 +1,4 @@
 -- `set_live` stores the set of live processes.
-use native.Mathlib.Omega.{arith}
 use Rattle.store.proofs.Writes.{live-set}
 use borrow.Author.Needs.{needs}
 use Rattle.store.proofs.cells.set_live.Statement.{statement}
@@ -9,4 +8,4 @@ returns : tie.Need-returns
 returns c = λ d n. live-set _ d n _ (search needs)
 
 pub set-live-spec : {M : Type 1} → statement M
-set-live-spec = tie.close (tie.spec (λ c κs. search needs) (λ c. search needs) returns)
+set-live-spec = tie.close (tie.spec (λ c. search needs) returns)

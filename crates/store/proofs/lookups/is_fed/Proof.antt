@@ -2,7 +2,7 @@
 use mathlib.Core.Path.{_∙_}
 use Rattle.store.specs.Maps.{view}
 use Rattle.store.proofs.Parts.{part-length}
-use Rattle.store.proofs.Files.{fed-has}
+use Rattle.store.proofs.Use.{fed-has}
 use borrow.Author.Needs.{needs}
 use Rattle.store.proofs.lookups.is_fed.Statement.{statement}
 use Rattle.store.proofs.lookups.is_fed.Tie as tie

@@ -4,8 +4,8 @@ use native.Mathlib.Omega.{arith}
 use Rattle.sets.specs.Sets.{count, _∪_}
 use Rattle.store.proofs.Worklist.{turn-below, turn-fewer, Working, working-start, working-more, working-end, given-mapped}
 use borrow.Author.Needs.{needs}
-use Rattle.store.proofs.spread.give.Statement.{statement}
-use Rattle.store.proofs.spread.give.Tie as tie
+use Rattle.store.proofs.gifts.give.Statement.{statement}
+use Rattle.store.proofs.gifts.give.Tie as tie
 
 abbrev Inv-loop : tie.InvT-loop
 Inv-loop items₀ r x left₀ items left = Working (λ y. y ∪ x) items₀ r items left
@@ -13,23 +13,14 @@ Inv-loop items₀ r x left₀ items left = Working (λ y. y ∪ x) items₀ r it
 abbrev μ-loop : tie.MeasureT-loop
 μ-loop items₀ r x left₀ items left = count left
 
-loop-holds : tie.Need-loop-holds Inv-loop μ-loop
-loop-holds c = working-start _ _ _ (c .before .pre) (search needs)
-
 cast-v : tie.Need-cast-v Inv-loop μ-loop
 cast-v c = omega (arith, turn-below _ (c .before .before .loop .inv .small) (c .before .loop-test .taken) _ (c .lowest .ensures))
-
-give-at-requires : tie.Need-give-at-requires Inv-loop μ-loop
-give-at-requires c κs = c .before .before .before .loop .inv .long
 
 loop-less : tie.Need-loop-less Inv-loop μ-loop
 loop-less c = turn-fewer _ (c .before .before .before .before .before .before .before .loop .inv .small) (c .before .before .before .before .before .before .loop-test .taken) _ (c .before .before .before .before .before .lowest .ensures) _ (c .without .ensures)
 
 loop-again : tie.Need-loop-again Inv-loop μ-loop
 loop-again c = working-more _ (c .before .before .before .before .before .before .before .loop .inv) (c .before .before .before .before .before .before .loop-test .taken) _ (c .before .before .before .before .before .lowest .ensures) _ _ (c .before .before .before .give-at .ensures) (c .without .ensures)
-
-same-length : tie.Need-same-length Inv-loop μ-loop
-same-length c = omega (arith, c .before .loop .inv .long, c .before .before .before .pre)
 
 returns : tie.Need-returns Inv-loop μ-loop
 returns c = working-end _ (c .before .loop .inv) (c .loop-test .left) ∙ given-mapped _ _ _
@@ -40,12 +31,12 @@ give-spec =
     (tie.spec
     Inv-loop
     μ-loop
-    loop-holds
+    (λ c. working-start _ _ _ (c .before .pre) (search needs))
     (λ c κs. search needs)
     cast-v
-    give-at-requires
+    (λ c κs. c .before .before .before .loop .inv .long)
     (λ c κs. search needs)
     loop-less
     loop-again
-    same-length
+    (λ c. omega (arith, c .before .loop .inv .long, c .before .before .before .pre))
     returns)

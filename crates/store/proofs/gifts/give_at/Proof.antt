@@ -2,8 +2,8 @@
 use mathlib.Core.Path.{refl}
 use Rattle.sets.specs.Sets.{_∪_}
 use borrow.Author.Needs.{needs}
-use Rattle.store.proofs.spread.give_at.Statement.{statement}
-use Rattle.store.proofs.spread.give_at.Tie as tie
+use Rattle.store.proofs.gifts.give_at.Statement.{statement}
+use Rattle.store.proofs.gifts.give_at.Tie as tie
 
 returns : tie.Need-returns
 unfolding _∪_

@@ -4,11 +4,10 @@ use mathlib.Core.Path.{_≡_, refl, sym, ap, _∙_}
 use lib.ListN.{length, take}
 use lib.Seq.{take-all}
 use borrow.Author.Needs.{needs}
-use Rattle.sets.specs.Sets.{_∪_}
-use Rattle.store.specs.Maps.{unionOf}
-use Rattle.store.proofs.Use.{unionOf-more}
-use Rattle.store.proofs.lookups.union_of.Statement.{statement}
-use Rattle.store.proofs.lookups.union_of.Tie as tie
+use Rattle.sets.specs.Sets.{_∪_, unionOf}
+use Rattle.sets.proofs.Unions.{unionOf-more}
+use Rattle.sets.proofs.union_of.Statement.{statement}
+use Rattle.sets.proofs.union_of.Tie as tie
 
 abbrev Inv-loop : tie.InvT-loop
 Inv-loop rows x₀ i₀ i-end x i = (i ≤ length rows) × (x ≡ unionOf (take i rows))
