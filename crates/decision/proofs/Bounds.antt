@@ -4,7 +4,6 @@ use Prim.Native.Nat.{ℕ, zero, suc, _+_, _*_, _^_, _≤_, _<_}
 use native.Mathlib.Omega.{arith}
 use native.Mathlib.Nat.{pow-succ', pow-le-pow-right}
 use mathlib.Core.Path.{_≡_, _∙_}
-use mathlib.Core.Bool.{Bool}
 use mathlib.Core.List.{List, [], _∷_}
 use mathlib.Core.Option.{Option}
 use lib.Dec.{eqb}
@@ -23,7 +22,7 @@ use Rattle.flow.proofs.Moves.{Fit}
 use Rattle.flow.proofs.Outcomes.{Made, Sound}
 use Rattle.flow.proofs.Keeping.{Invariant, fresh-empty, sound, state-kept}
 use Rattle.decision.specs.Chains.{Numbers, ofBytes}
-use Rattle.decision.proofs.Stored.{partsOf, setIn, blank}
+use Rattle.decision.proofs.Stored.{partsOf, setIn}
 use Rattle.decision.proofs.ListLaws.{Below, every-part, table-numbers}
 use Rattle.decision.proofs.OutcomeLaws.{Steady, Ruled, Fine, reading-fits, outcome-fine, after-ruled}
 use Rattle.decision.proofs.Telling.{Any, reading-any, kept-ruled}

@@ -1,7 +1,6 @@
 -- A code tells its answer: its bytes are the word and the numbers. An answer is its word, and the other way round.
 use Prim.Native.Nat.{ℕ, _+_, _*_, _/_, _%_, _^_, _<_}
 use native.Mathlib.Omega.{arith}
-use native.Mathlib.Nat.{mod-eq-of-lt}
 use mathlib.Core.Path.{_≡_, refl, ap, ap₂, _∙_}
 use Rattle.flow.specs.Verdicts.{Answer as Word, refused, rule, allow, inhibit, modify}
 use Rattle.decision.specs.declared.Answer.{Answer}

@@ -19,7 +19,7 @@ use Rattle.flow.proofs.Rows.{target-lt, Rows}
 use Rattle.flow.proofs.Entries.{Each}
 use Rattle.flow.proofs.Keeping.{state-kept}
 use Rattle.decision.specs.Chains.{Numbers, Holdable, ofBytes, ChainExists}
-use Rattle.decision.proofs.Stored.{partsOf, setIn, blank, fieldOf, setsOf, fieldsOf, wordsOf, held, items-fit, action-lt, substitute-lt, formed-at}
+use Rattle.decision.proofs.Stored.{partsOf, blank, fieldOf, setsOf, fieldsOf, wordsOf, held, items-fit, action-lt, substitute-lt, formed-at}
 use Rattle.decision.proofs.ListLaws.{Below, append-numbers, table-numbers, one-number}
 use Rattle.decision.proofs.Bounds.{state-bounded, state-ruled}
 use Rattle.decision.proofs.Chains.{answerTo, answer-bytes, chain-over}

@@ -1,15 +1,15 @@
 -- A call by the hook is a record, since the record of five numbers reads as their call; and so an event is a step of a chain.
 use Prim.Native.Nat.{ℕ, suc}
 use native.Mathlib.Omega.{arith}
-use mathlib.Core.Path.{_≡_, refl, sym, ap, subst, _∙_}
+use mathlib.Core.Path.{_≡_, refl, sym, ap, _∙_}
 use mathlib.Core.List.{List, map}
 use lib.ListN.{List·getD-map, length-map}
 use Rattle.flow.specs.Lists.{firstThat}
-use Rattle.flow.specs.Records.{byteAt, tagOf, statedLength, recordLength, valueOf, cutShort, knownTag, tagLength, wrongLength, callFrom, callIn, Reading, aCall, frameTests, contentOf, readingBy, reading}
+use Rattle.flow.specs.Records.{byteAt, tagOf, statedLength, recordLength, valueOf, cutShort, knownTag, tagLength, wrongLength, callFrom, callIn, aCall, frameTests, contentOf, readingBy, reading}
 use Rattle.flow.specs.Contents.{entry, memory, stepAt}
 use Rattle.decision.specs.declared.Monitor.{Monitor}
 use Rattle.decision.specs.declared.Answer.{Answer}
-use Rattle.decision.specs.Answers.{Answers, AnswersRecord}
+use Rattle.decision.specs.Answers.{AnswersRecord}
 use Rattle.decision.specs.TwoRuns.{Chain, Demand3OfCode}
 use Rattle.decision.specs.Chains.{callRecord, CallIsRecord, Event, given, called, moves, stepOf, eventAt, MixedChain, HookIsStep, Demand3OfHook}
 use Rattle.decision.proofs.TwoRuns.{demand3-of-code}

@@ -1,15 +1,14 @@
 -- A rule is refused with the number of the first test that holds, or loaded behind the others.
 use Prim.Native.Nat.{ℕ, _≤_, _<_}
-use native.Mathlib.Omega.{arith}
 use mathlib.Core.Path.{_≡_, refl, sym, ap, _∙_}
 use mathlib.Core.Bool.{Bool, true, false}
 use mathlib.Core.List.{List, [], _∷_, _++_}
-use mathlib.Core.Option.{Option, none, some}
+use mathlib.Core.Option.{none}
 use lib.Dec.{leb}
 use lib.ListN.{length}
 use borrow.Author.Tests.{le-leb, lt-leb}
 use Rattle.flow.specs.Lists.{_⇒_, firstThat, refusalFrom}
-use Rattle.flow.specs.Box.{Rule, State}
+use Rattle.flow.specs.Box.{Rule}
 use Rattle.flow.specs.Rules.{broken}
 use Rattle.flow.specs.Records.{aRule}
 use Rattle.flow.specs.Refusals.{fieldTests, ruleTests, testsOf}

@@ -7,7 +7,7 @@ use Rattle.flow.specs.Box.{State}
 use Rattle.flow.specs.Records.{reading, recordsOf}
 use Rattle.flow.specs.Verdicts.{Answer as Word, answerOf, outcome, stateAfter, answerAll, runLog}
 use Rattle.decision.specs.View.{view}
-use Rattle.decision.specs.Logs.{codeOf, wordFrom, CodesTell, codesOf}
+use Rattle.decision.specs.Logs.{wordFrom, CodesTell, codesOf}
 use Rattle.decision.specs.Telling.{LogCodesTell}
 unfoldable pub use Rattle.decision.proofs.CodeLaws.{answerIs}
 use Rattle.decision.proofs.CodeLaws.{word-is, codes-tell, code-lt}

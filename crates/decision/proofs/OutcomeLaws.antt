@@ -5,7 +5,7 @@ use Prim.Native.Nat.{ℕ, suc, _+_, _^_, _≤_, _<_}
 use native.Mathlib.Omega.{arith}
 use mathlib.Core.Path.{_≡_, refl, ap, _∙_}
 use mathlib.Core.Bool.{Bool, true, false, _&&_}
-use mathlib.Core.List.{List, [], _∷_, _++_}
+use mathlib.Core.List.{List, [], _∷_}
 use mathlib.Core.Option.{Option, none, some}
 use lib.Dec.{ltb, eqb}
 use lib.ListN.{length, set, length-set, length-append}
@@ -18,7 +18,7 @@ use Rattle.flow.specs.Calls.{Kind, start, openName, create, pipe, device, dup, 
 use Rattle.flow.specs.Rules.{broken, Numbered, firstBroken, lowestBroken}
 use Rattle.flow.specs.Records.{tagOf, callTag, valueOf, ruleIn, Reading, unreadable, aCall, aRule, frameTests, contentOf, readingBy, reading}
 use Rattle.flow.specs.Refusals.{inRange, ranges, fieldsFit, fieldTests, callTests, ruleTests}
-use Rattle.flow.specs.Verdicts.{Outcome, refuses, loads, allows, inhibits, modifies, diversion, mayDivert, breaksNone, stopped, verdictBy, verdict, outcomeOfCall, outcomeOfRule, outcomeOf, outcome, answerOf, withRule, stateAfter}
+use Rattle.flow.specs.Verdicts.{Outcome, refuses, loads, allows, inhibits, modifies, diversion, mayDivert, breaksNone, stopped, verdictBy, verdict, outcomeOfCall, outcomeOfRule, outcomeOf, answerOf, withRule, stateAfter}
 use Rattle.flow.specs.Kept.{wellFormed}
 use Rattle.flow.proofs.Bools.{and-l, and-r, choice}
 use Rattle.flow.proofs.TableLaws.{AllFalse, all-false, first-of-none}

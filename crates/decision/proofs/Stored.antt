@@ -7,11 +7,11 @@ use mathlib.Core.Path.{_≡_, refl, ap, ap₂, _∙_}
 use mathlib.Core.Bool.{true, _&&_}
 use mathlib.Core.List.{List, [], _∷_, _++_}
 use lib.Dec.{ltb, eqb}
-use lib.ListN.{getD, length, take, drop, List·getD-append}
+use lib.ListN.{getD, length, take, List·getD-append}
 use lib.Seq.{take-at, drop-at, take-all, drop-drop, getD-at, ext-getD}
 use borrow.Author.Tests.{ltb-true, ltb-false, eqb-true, not-false}
 use Rattle.flow.specs.Lists.{table, firstThat, isNone}
-use Rattle.flow.specs.Box.{Condition, forbid, separate, confine, Rule, State, isTarget}
+use Rattle.flow.specs.Box.{Condition, forbid, separate, confine, Rule, State}
 use Rattle.flow.specs.Records.{forbidTag, separateTag, confineTag, conditionOf}
 use Rattle.flow.specs.Refusals.{itemsFit, substituteFits, sameItems, fieldTests}
 use Rattle.flow.specs.Kept.{wellFormed, allWellFormed}

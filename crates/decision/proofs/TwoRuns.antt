@@ -12,7 +12,7 @@ use Rattle.flow.specs.Box.{containerCount, Rule, State}
 use Rattle.flow.specs.Rules.{forbids, lowestBroken}
 use Rattle.flow.specs.Records.{aRule, reading}
 use Rattle.flow.specs.Refusals.{ruleTests}
-use Rattle.flow.specs.Verdicts.{outcomeOfRule, outcomeOf, outcome, rule, answerOf, answer, withRule, stateAfter, next, runLog}
+use Rattle.flow.specs.Verdicts.{outcomeOfRule, outcomeOf, outcome, rule, answerOf, answer, withRule, stateAfter, next}
 use Rattle.flow.specs.Contents.{Step, entry, memory, Machine, runAt, stepState, stepAt, stateAt}
 use Rattle.flow.specs.TwoRuns.{RecordedWithout, Forbidden, first, later, RulesForbid, Agree, Demand3}
 use Rattle.flow.specs.Consequences.{LogIsSteps}

@@ -1,4 +1,4 @@
--- `code` goes by cases.
+-- `code` goes by cases: its numbers fit, and each arm has the code of its answer.
 use mathlib.Core.Path.{refl}
 use Rattle.decision.specs.Answers.{wordOf}
 use Rattle.decision.specs.Logs.{codeOf}

@@ -13,18 +13,12 @@ Inv-loop log at₀ n₀ at n = Counted log at n
 abbrev μ-loop : tie.MeasureT-loop
 μ-loop log at₀ n₀ at n = length log - at
 
-loop-again : tie.Need-loop-again Inv-loop μ-loop
-loop-again c = count-more (c .before .before .loop .inv) (c .before .loop-test .taken) _ (c .end-after .ensures)
-
 pub records-in-spec : {M : Type 1} → statement M
 records-in-spec =
     tie.close
-    (tie.spec
-    Inv-loop
-    μ-loop
+    (tie.spec Inv-loop μ-loop
     (λ c. count-start _)
-    (λ c κs. search needs)
-    (λ c. search needs)
+    (λ c κs. search needs) (λ c. search needs)
     (λ c. omega (arith, end-past, end-within))
-    loop-again
+    (λ c. count-more (c .before .before .loop .inv) (c .before .loop-test .taken) _ (c .end-after .ensures))
     (λ c. count-end (c .before .loop .inv) (c .loop-test .left)))
