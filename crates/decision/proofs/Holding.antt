@@ -1,28 +1,41 @@
--- The monitor that holds a state of a run is a value of the code's type (`held-holdable`), array by array: what the invariant and the bounds
--- say of the state is what its arrays must have. With it there is a chain of such values for each list of steps.
-use Prim.Native.Nat.{ℕ, zero, suc, _/_, _%_, _^_, _≤_, _<_}
+-- A chain for each list of steps: the monitors that hold the states of the definitions, with the answers of the definitions. Such a monitor
+-- is a value of the code's type, array by array, by what the invariant and the bounds say of the state (`held-holdable`); it stands for its
+-- state (`views`); and it answers a record as the contract asks (`record-answered`).
+use Prim.Native.Nat.{ℕ, suc, zero, _/_, _%_, _^_, _≤_, _<_}
 use native.Mathlib.Omega.{arith}
-use lib.Pow.{pow-pos}
-use mathlib.Core.Path.{_≡_}
+use mathlib.Core.Path.{_≡_, sym, ap, _∙_}
+use mathlib.Core.List.{List, [], _∷_}
+use mathlib.Core.Option.{none}
 use mathlib.Core.Logic.{⊎-elim}
 use mathlib.Core.Bool.{Bool, true}
-use mathlib.Core.List.{List, [], _∷_}
+use lib.Pow.{pow-pos}
 use lib.Dec.{ltb, leb}
 use lib.ListN.{getD, length}
 use borrow.Author.Tests.{ltb-true}
-use Rattle.flow.specs.Box.{isFile, isTarget, Condition, forbid, separate, confine, Rule}
+use Rattle.flow.specs.Box.{State, isFile, isTarget, Condition, forbid, separate, confine, Rule}
+use Rattle.flow.specs.Rules.{lowestBroken}
+use Rattle.flow.specs.Verdicts.{outcome, answer, next}
+use Rattle.flow.specs.Contents.{Step, entry, memory, stepState, stepAt, stateAt}
+use Rattle.flow.specs.Consequences.{RefusedExactly, StoppedKeeps}
 use Rattle.flow.specs.Refusals.{itemsFit}
-use Rattle.flow.specs.Contents.{Step, stepAt, stateAt}
 use Rattle.flow.specs.Kept.{wellFormed}
+use Rattle.flow.proofs.Refused.{refusal-read, refused-exactly}
+use Rattle.flow.proofs.Consequences.{stopped-keeps}
+use Rattle.flow.proofs.Keeping.{Invariant, state-kept}
 use Rattle.flow.proofs.Bools.{and-l, and-r}
 use Rattle.flow.proofs.Rows.{target-lt, Rows}
 use Rattle.flow.proofs.Entries.{Each}
-use Rattle.flow.proofs.Keeping.{state-kept}
+use Rattle.decision.specs.declared.Answer.{Answer}
+use Rattle.decision.specs.declared.Answer.the-variants.{Refused, Allow, Inhibit}
+use Rattle.decision.specs.View.{view}
+use Rattle.decision.specs.Answers.{wordOf, Sound, AnswersRecord}
+use Rattle.decision.specs.Logs.{inBytes}
 use Rattle.decision.specs.Chains.{Numbers, Holdable, ofBytes, ChainExists}
-use Rattle.decision.proofs.Stored.{partsOf, blank, fieldOf, setsOf, fieldsOf, wordsOf, held, items-fit, action-lt, substitute-lt, formed-at}
-use Rattle.decision.proofs.ListLaws.{Below, append-numbers, table-numbers, one-number}
+use Rattle.decision.proofs.CodeLaws.{answerIs, word-is}
+use Rattle.decision.proofs.Stored.{held, held-view, partsOf, blank, fieldOf, setsOf, fieldsOf, wordsOf, items-fit, action-lt, substitute-lt, formed-at}
+use Rattle.decision.proofs.Telling.{kept-ruled, outcome-bytes}
 use Rattle.decision.proofs.Bounds.{state-bounded, state-ruled}
-use Rattle.decision.proofs.Chains.{answerTo, answer-bytes, chain-over}
+use Rattle.decision.proofs.ListLaws.{Below, append-numbers, table-numbers, one-number}
 
 -- ---- entries
 each-below : (P : ℕ → Bool) → ((e : ℕ) → P e ≡ true → e < 64) → (l : List ℕ) → Each P l → Below 256 l
@@ -72,13 +85,50 @@ module _ (steps : List Step) (h : (n : ℕ) → ofBytes (stepAt steps n)) (k : �
             (one-number (length (s .rules)) (let l : length (s .rules) ≤ 32 = i .counted in omega arith));
       }
 
+-- ---- one record, from a state that a monitor holds to the state after it, where no rule is broken
+module _ (s : State) (bytes : List ℕ) (v : view (held s) ≡ s) (w : view (held (next s bytes)) ≡ next s bytes) (unbroken : lowestBroken (next s bytes) ≡ none) where
+  told : (a : Answer) → answerIs (answer s bytes) ≡ a → answer s bytes ≡ wordOf a
+  told a e = sym (word-is (answer s bytes)) ∙ ap wordOf e
+
+  pub record-answered : AnswersRecord (held s) bytes (record { answer = answerIs (answer s bytes); monitor = held (next s bytes) })
+  unfolding Sound outcome answer next wordOf answerIs RefusedExactly StoppedKeeps
+  record-answered =
+      record {
+        refusal = λ n. let h = refused-exactly s bytes n in rw v (λ e. sym (refusal-read s bytes) ∙ h .0 (told (Refused n) e), λ e. ap answerIs (h .1 (refusal-read s bytes ∙ e)));
+        refused-kept = λ n e. ap held (stopped-keeps s bytes n .0 (told (Refused n) e));
+        inhibited-kept = λ n e. ap held (stopped-keeps s bytes n .1 (told (Inhibit n) e));
+        answer = λ h. rw v (word-is (answer s bytes));
+        state = λ h. w ∙ ap (λ (u : State). next u bytes) (sym v);
+        sound = λ h. ap lowestBroken w ∙ unbroken;
+      }
+
+unfoldable pub answerTo : State → Step → Answer
+answerTo s (entry bytes) = answerIs (answer s bytes)
+answerTo s memory = Allow
+
+pub answer-bytes : (s : State) → Invariant s → (x : Step) → inBytes (answerTo s x)
+unfolding answerTo answer inBytes
+answer-bytes s i (entry bytes) = outcome-bytes s (kept-ruled s i) bytes
+answer-bytes s i memory = tt
+
+-- ---- all steps
+pub views : (steps : List Step) (k : ℕ) → view (held (stateAt steps k)) ≡ stateAt steps k
+views steps k =
+    let i : Invariant (stateAt steps k) = state-kept steps k in
+    held-view (stateAt steps k) (i .loadable) (i .counted) (state-bounded steps k .items .size) (i .linking .feeders .size) (i .linking .fed .size)
+
 pub chain-exists : ChainExists
-unfolding ChainExists
+unfolding ChainExists stateAt stepState answerTo next
 chain-exists steps =
     record {
       x = λ k. held (stateAt steps k);
       a = λ n. answerTo (stateAt steps n) (stepAt steps n);
-      chain = chain-over steps;
+      chain =
+          record {
+            made = views steps 0;
+            answers = λ n bytes e. rw e (record-answered (stateAt steps n) bytes (views steps n) (rw e at (views steps (suc n))) (rw e at (state-kept steps (suc n) .unbroken)));
+            rests = λ n e. rw e;
+          };
       told = λ n. answer-bytes (stateAt steps n) (state-kept steps n) (stepAt steps n);
       holdable = held-holdable steps;
     }

@@ -12,7 +12,6 @@ pub mod ListLaws
 pub mod OutcomeLaws
 pub mod Telling
 pub mod Bounds
-pub mod Chains
 pub mod Holding
 pub mod LogTelling
 pub mod Operations

@@ -37,34 +37,35 @@ module _ (s : Tables) (p a b c : ℕ) where
   abbrev call : Kind → Call
   call kind = record { kind = kind; process = p; a = a; b = b; c = c }
 
-  -- one more process lives; the names are others; neither
-  abbrev lives : (n : ℕ) (t : Tables) → n < 16 → t .live ≡ (s .live ∪ only n) → t .names ≡ s .names → Steady s t
-  lives n t l e f = record { live = λ h. rw e (union-lt (s .live) (only n) h (only-lt n (omega arith))); names = ap length f }
+  -- one more process lives
+  added-lt : (n : ℕ) → n < 16 → s .live < 2 ^ 64 → (s .live ∪ only n) < 2 ^ 64
+  added-lt n l h = union-lt (s .live) (only n) h (only-lt n (omega arith))
 
-  abbrev named : {t : Tables} → t .live ≡ s .live → length (t .names) ≡ length (s .names) → Steady s t
-  named e f = record { live = λ h. rw e h; names = f }
+  -- the same processes live
+  abbrev kept : {t : Tables} → t .live ≡ s .live → length (t .names) ≡ length (s .names) → Steady s t
+  kept e f = record { live = λ h. rw e h; names = f }
 
   steady-after : (kind : Kind) → fieldsFit (ranges kind) (call kind) ≡ true → Steady s (tablesBy s p a b c kind)
   unfolding tablesBy withLive withDescriptors withNames withLinks ranges inRange
-  steady-after start h = lives p _ (ltb-true p 16 (fits-process (ranges start) (call start) h)) refl refl
-  steady-after openName h = named refl refl
-  steady-after create h = named refl (length-set (s .names) a c)
-  steady-after pipe h = named refl refl
-  steady-after device h = named refl refl
-  steady-after dup h = named refl refl
-  steady-after close h = named refl refl
-  steady-after read h = named refl refl
-  steady-after write h = named refl refl
-  steady-after truncate h = named refl refl
-  steady-after mapRead h = named refl refl
-  steady-after mapBoth h = named refl refl
-  steady-after unmap h = named refl refl
-  steady-after unlink h = named refl (length-set (s .names) a closed)
-  steady-after rename h = named refl (length-set (set (s .names) a closed) b (name s a) ∙ length-set (s .names) a closed)
-  steady-after link h = named refl (length-set (s .names) b (name s a))
-  steady-after fork h = lives a _ (ltb-true a 16 (fits-a (ranges fork) (call fork) h)) refl refl
+  steady-after start h = record { live = added-lt p (ltb-true p 16 (fits-process (ranges start) (call start) h)); names = refl }
+  steady-after openName h = kept refl refl
+  steady-after create h = kept refl (length-set (s .names) a c)
+  steady-after pipe h = kept refl refl
+  steady-after device h = kept refl refl
+  steady-after dup h = kept refl refl
+  steady-after close h = kept refl refl
+  steady-after read h = kept refl refl
+  steady-after write h = kept refl refl
+  steady-after truncate h = kept refl refl
+  steady-after mapRead h = kept refl refl
+  steady-after mapBoth h = kept refl refl
+  steady-after unmap h = kept refl refl
+  steady-after unlink h = kept refl (length-set (s .names) a closed)
+  steady-after rename h = kept refl (length-set (set (s .names) a closed) b (name s a) ∙ length-set (s .names) a closed)
+  steady-after link h = kept refl (length-set (s .names) b (name s a))
+  steady-after fork h = record { live = added-lt a (ltb-true a 16 (fits-a (ranges fork) (call fork) h)); names = refl }
   steady-after exit h = record { live = λ l. without-lt (s .live) p; names = refl }
-  steady-after label h = named refl refl
+  steady-after label h = kept refl refl
 
 -- ---- the tests' numbers are bytes
 smallTests : List Test → Bool
