@@ -32,7 +32,7 @@ use Rattle.decision.specs.Answers.{wordOf, Sound, AnswersRecord}
 use Rattle.decision.specs.Logs.{inBytes}
 use Rattle.decision.specs.Chains.{Numbers, Holdable, ofBytes, ChainExists}
 use Rattle.decision.proofs.CodeLaws.{answerIs, word-is}
-use Rattle.decision.proofs.Stored.{held, held-view, partsOf, blank, fieldOf, setsOf, fieldsOf, wordsOf, items-fit, action-lt, substitute-lt, formed-at}
+use Rattle.decision.proofs.Stored.{held, held-view, partsOf, blank, fieldOf, setsOf, fieldsOf, wordsOf, fields-fit, substitute-lt, formed-at}
 use Rattle.decision.proofs.Telling.{kept-ruled, outcome-bytes}
 use Rattle.decision.proofs.Bounds.{state-bounded, state-ruled}
 use Rattle.decision.proofs.ListLaws.{Below, append-numbers, table-numbers, one-number}
@@ -60,9 +60,9 @@ parts-lt (confine i x) h = (omega arith, ltb-true i 64 h)
 
 field-lt : (r : Rule) → wellFormed r ≡ true → (n : ℕ) → fieldOf r n < 256
 unfolding fieldOf
-field-lt r w zero = parts-lt (r .condition) (items-fit r w) .0
-field-lt r w (suc zero) = omega (arith, parts-lt (r .condition) (items-fit r w) .1)
-field-lt r w (suc (suc zero)) = omega (arith, action-lt r w)
+field-lt r w zero = parts-lt (r .condition) (fields-fit r w .0) .0
+field-lt r w (suc zero) = omega (arith, parts-lt (r .condition) (fields-fit r w .0) .1)
+field-lt r w (suc (suc zero)) = omega (arith, fields-fit r w .1)
 field-lt r w (suc (suc (suc zero))) = omega (arith, substitute-lt r w)
 field-lt r w (suc (suc (suc (suc k)))) = omega arith
 
@@ -113,9 +113,7 @@ answer-bytes s i memory = tt
 
 -- ---- all steps
 pub views : (steps : List Step) (k : ℕ) → view (held (stateAt steps k)) ≡ stateAt steps k
-views steps k =
-    let i : Invariant (stateAt steps k) = state-kept steps k in
-    held-view (stateAt steps k) (i .loadable) (i .counted) (state-bounded steps k .items .size) (i .linking .feeders .size) (i .linking .fed .size)
+views steps k = held-view (stateAt steps k) (state-kept steps k) (state-bounded steps k .items .size)
 
 pub chain-exists : ChainExists
 unfolding ChainExists stateAt stepState answerTo next

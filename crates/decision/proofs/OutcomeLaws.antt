@@ -1,9 +1,9 @@
 -- What every outcome says, whatever the state and the record (`outcome-fine`): its numbers are bytes, the change that it makes keeps the live
--- processes a set and the names as many, and a rule that it loads can be loaded. So the rules stay few (`after-ruled`). It goes by what was
+-- processes a set and the names as many, and a rule that it loads has room and diverts to a container. So the rules stay few (`after-ruled`). It goes by what was
 -- read, by the first test that holds, and by the lowest broken rule.
 use Prim.Native.Nat.{ℕ, suc, _+_, _^_, _≤_, _<_}
 use native.Mathlib.Omega.{arith}
-use mathlib.Core.Path.{_≡_, refl, ap, _∙_}
+use mathlib.Core.Path.{_≡_, refl, _∙_}
 use mathlib.Core.Bool.{Bool, true, false, _&&_}
 use mathlib.Core.List.{List, [], _∷_}
 use mathlib.Core.Option.{Option, none, some}
@@ -12,21 +12,21 @@ use lib.ListN.{length, set, length-set, length-append}
 use borrow.Author.Tests.{ltb-true, leb-false, not-false}
 use Rattle.sets.specs.Sets.{only, _∪_}
 use Rattle.sets.proofs.Members.{without-lt, only-lt, union-lt}
-use Rattle.flow.specs.Lists.{Test, _⇒_, firstThat, isNone}
+use Rattle.flow.specs.Lists.{Test, _⇒_, firstThat}
 use Rattle.flow.specs.Box.{Rule, Tables, State, name, closed}
 use Rattle.flow.specs.Calls.{Kind, start, openName, create, pipe, device, dup, close, read, write, truncate, mapRead, mapBoth, unmap, unlink, rename, link, fork, exit, label, Call, withLive, withDescriptors, withNames, withLinks, tablesBy, change, after}
 use Rattle.flow.specs.Rules.{broken, Numbered, firstBroken, lowestBroken}
 use Rattle.flow.specs.Records.{tagOf, callTag, valueOf, ruleIn, Reading, unreadable, aCall, aRule, frameTests, contentOf, readingBy, reading}
 use Rattle.flow.specs.Refusals.{inRange, ranges, fieldsFit, fieldTests, callTests, ruleTests}
 use Rattle.flow.specs.Verdicts.{Outcome, refuses, loads, allows, inhibits, modifies, diversion, mayDivert, breaksNone, stopped, verdictBy, verdict, outcomeOfCall, outcomeOfRule, outcomeOf, answerOf, withRule, stateAfter}
-use Rattle.flow.specs.Kept.{wellFormed}
 use Rattle.flow.proofs.Bools.{and-l, and-r, choice}
 use Rattle.flow.proofs.TableLaws.{AllFalse, all-false, first-of-none}
 use Rattle.flow.proofs.Accepted.{fits-process, fits-a}
+use Rattle.rules.proofs.LoadingLaws.{fit-substitute}
 use Rattle.decision.specs.Logs.{inBytes}
 use Rattle.decision.proofs.CodeLaws.{answerIs}
 use Rattle.decision.proofs.ListLaws.{Every, every-more}
-use Rattle.decision.proofs.Stored.{blank, substitute-lt}
+use Rattle.decision.proofs.Stored.{blank}
 
 -- ---- the live processes and the names after a call
 pub record Steady (s t : Tables) : Type 0 where
@@ -103,7 +103,7 @@ module _ (Q : Rule → Type 0) where
 
   unfoldable pub Fine : State → Outcome → Type 0
   Fine s (refuses n) = n < 256
-  Fine s (loads n r) = (n < 32) × (length (s .rules) < 32) × (wellFormed r ≡ true) × Q r
+  Fine s (loads n r) = (n < 32) × (length (s .rules) < 32) × (r .substitute < 64) × Q r
   Fine s (allows x) = Steady (s .tables) (x .tables)
   Fine s (inhibits n) = n < 256
   Fine s (modifies n c x) = (n < 256) × (c < 64) × Steady (s .tables) (x .tables)
@@ -122,7 +122,7 @@ module _ (Q : Rule → Type 0) where
   after-ruled s (loads n r) f h =
       record {
         counted = let l : length (s .rules) < 32 = f .1 in rw (length-append (s .rules) (r ∷ [])) (omega arith);
-        diverted = every-more (λ x. x .substitute < 64) blank (s .rules) r (h .diverted) (substitute-lt r (f .2));
+        diverted = every-more (λ x. x .substitute < 64) blank (s .rules) r (h .diverted) (f .2);
         each = every-more Q blank (s .rules) r (h .each) (f .3);
       }
   after-ruled s (allows x) f h = h
@@ -161,11 +161,11 @@ module _ (Q : Rule → Type 0) where
     call-fine (some q) (some n) e = first-small (callTests (s .tables) (some q)) n refl e
 
     rule-fine : (r : Rule) (o : Option ℕ) → firstThat (ruleTests s r) ≡ o → Q r → Fine s (outcomeOfRule s r o)
-    unfolding outcomeOfRule Fine ruleTests fieldTests AllFalse wellFormed isNone smallTests
+    unfolding outcomeOfRule Fine ruleTests fieldTests AllFalse smallTests
     rule-fine r none e f =
         let h = all-false (ruleTests s r) e in
         let l : length (s .rules) < 32 = leb-false 32 (length (s .rules)) (h .1 .1 .1 .0) in
-        (l, l, ap isNone (first-of-none (fieldTests r) (h .0, (h .1 .0, (h .1 .1 .0, tt)))), f)
+        (l, l, fit-substitute r (first-of-none (fieldTests r) (h .0, (h .1 .0, (h .1 .1 .0, tt)))), f)
     rule-fine r (some n) e f = first-small (ruleTests s r) n refl e
 
     pub outcome-fine : (y : Reading) → ReadingFits y → Fine s (outcomeOf s y)

@@ -3,24 +3,26 @@
 use Prim.Native.Nat.{ℕ, zero, suc, _/_, _%_, _≤_, _<_}
 use native.Mathlib.Omega.{arith}
 use native.Mathlib.Nat.{mod-eq-of-lt}
-use mathlib.Core.Path.{_≡_, refl, ap, ap₂, _∙_}
-use mathlib.Core.Bool.{true, _&&_}
+use mathlib.Core.Path.{_≡_, refl, ap₂, _∙_}
+use mathlib.Core.Bool.{true}
 use mathlib.Core.List.{List, [], _∷_, _++_}
-use lib.Dec.{ltb, eqb}
-use lib.ListN.{getD, length, take, List·getD-append}
+use mathlib.Core.Option.{none}
+use lib.Dec.{ltb}
+use lib.ListN.{getD, length, List·getD-append}
 use lib.Seq.{take-at, drop-at, take-all, drop-drop, getD-at, ext-getD}
-use borrow.Author.Tests.{ltb-true, ltb-false, eqb-true, not-false}
+use borrow.Author.Tests.{ltb-true, ltb-false, not-false}
 use Rattle.flow.specs.Lists.{table, firstThat, isNone}
 use Rattle.flow.specs.Box.{Condition, forbid, separate, confine, Rule, State}
 use Rattle.flow.specs.Records.{forbidTag, separateTag, confineTag, conditionOf}
 use Rattle.flow.specs.Refusals.{itemsFit, substituteFits, sameItems, fieldTests}
 use Rattle.flow.specs.Kept.{wellFormed, allWellFormed}
-use Rattle.flow.proofs.Bools.{and-l, and-r, by, choice}
+use Rattle.flow.proofs.Bools.{and-l, and-r, by}
 use Rattle.flow.proofs.TableLaws.{table-at, table-length, none-is, AllFalse, all-false}
-use Rattle.flow.proofs.Rows.{target-lt}
+use Rattle.flow.proofs.Keeping.{Invariant}
 use Rattle.store.specs.Maps.{part, view as mapsOf}
 use Rattle.rules.specs.Stored.{place, countField, conditionAt, actionAt, substituteAt, ruleAt, countOf, rulesOf}
 use Rattle.rules.proofs.StoredLaws.{count-all, count-full}
+use Rattle.rules.proofs.LoadingLaws.{fit-substitute}
 use Rattle.decision.specs.declared.Monitor.{Monitor}
 use Rattle.decision.specs.View.{monitor, view}
 
@@ -60,28 +62,16 @@ condition-back (separate i j) = refl
 condition-back (confine i x) = refl
 
 module _ (r : Rule) (w : wellFormed r ≡ true) where
-  tests-fail : AllFalse (fieldTests r)
+  untested : firstThat (fieldTests r) ≡ none
   unfolding wellFormed
-  tests-fail = all-false (fieldTests r) (none-is (firstThat (fieldTests r)) w)
-
-  fit : (itemsFit (r .condition) && substituteFits r) ≡ true
-  unfolding fieldTests AllFalse
-  fit = not-false (itemsFit (r .condition) && substituteFits r) (tests-fail .1 .0)
-
-  pub items-fit : itemsFit (r .condition) ≡ true
-  items-fit = and-l _ (substituteFits r) fit
-
-  pub action-lt : r .action < 2
-  unfolding fieldTests AllFalse
-  action-lt = ltb-true (r .action) 2 (not-false (ltb (r .action) 2) (tests-fail .0))
+  untested = none-is (firstThat (fieldTests r)) w
 
   pub substitute-lt : r .substitute < 64
-  unfolding substituteFits
-  substitute-lt =
-      choice (λ b. b ≡ true → r .substitute < 64) (eqb (r .action) 0) _ _
-      (λ e h. let z : r .substitute ≡ 0 = eqb-true (r .substitute) 0 h in omega arith)
-      (λ e h. target-lt (r .substitute) h)
-      (and-r (itemsFit (r .condition)) _ fit)
+  substitute-lt = fit-substitute r untested
+
+  pub fields-fit : (itemsFit (r .condition) ≡ true) × (r .action < 2)
+  unfolding fieldTests AllFalse
+  fields-fit = let h = all-false (fieldTests r) untested in (and-l _ (substituteFits r) (not-false _ (h .1 .0)), ltb-true (r .action) 2 (not-false _ (h .0)))
 
 -- each rule of a list can be loaded
 pub formed-at : (rs : List Rule) (k : ℕ) → allWellFormed rs ≡ true → wellFormed (getD rs k blank) ≡ true
@@ -123,16 +113,16 @@ module _ (rs : List Rule) (loadable : allWellFormed rs ≡ true) (counted : leng
       rw count-held (ext-getD blank (table (length rs) rule) rs size (λ i h. table-at (length rs) rule i blank (omega arith) ∙ rule-held i (omega arith)))
 
 -- ---- the state
-module _ (s : State) (loadable : allWellFormed (s .rules) ≡ true) (counted : length (s .rules) ≤ 32) (items-size : length (s .items) ≡ 64) (feeders-size : length (s .tables .feeders) ≡ 16) (fed-size : length (s .tables .fed) ≡ 16) where
+module _ (s : State) (i : Invariant s) (items-size : length (s .items) ≡ 64) where
   feeders-held : part 65 16 (wordsOf s) ≡ s .tables .feeders
   unfolding part wordsOf
-  feeders-held = ap (take 16) (drop-at (s .items) _ 64 items-size) ∙ take-at (s .tables .feeders) (s .tables .fed) 16 feeders-size
+  feeders-held = rw (drop-at (s .items) _ 64 items-size) (take-at (s .tables .feeders) (s .tables .fed) 16 (i .linking .feeders .size))
 
   fed-held : part 81 16 (wordsOf s) ≡ s .tables .fed
   unfolding part wordsOf
   fed-held =
-      rw (← (drop-drop 16 64 (s .items ++ (s .tables .feeders ++ s .tables .fed))), drop-at (s .items) _ 64 items-size, drop-at (s .tables .feeders) _ 16 feeders-size)
-      (take-all 16 (s .tables .fed) (omega arith))
+      rw (← (drop-drop 16 64 (s .items ++ (s .tables .feeders ++ s .tables .fed))), drop-at (s .items) _ 64 items-size, drop-at (s .tables .feeders) _ 16 (i .linking .feeders .size))
+      (take-all 16 (s .tables .fed) (omega (arith, i .linking .fed .size)))
 
   pub held-view : view (held s) ≡ s
   unfolding view mapsOf held wordsOf part
@@ -141,5 +131,5 @@ module _ (s : State) (loadable : allWellFormed (s .rules) ≡ true) (counted : l
         tables =
             record { live = s .tables .live; feeders = feeders-held k; fed = fed-held k; descriptors = s .tables .descriptors; names = s .tables .names };
         items = take-at (s .items) (s .tables .feeders ++ s .tables .fed) 64 items-size k;
-        rules = rules-held (s .rules) loadable counted k;
+        rules = rules-held (s .rules) (i .loadable) (i .counted) k;
       }
