@@ -24,7 +24,7 @@ use Rattle.flow.proofs.Keeping.{Invariant, fresh-empty, sound, state-kept}
 use Rattle.decision.specs.Chains.{Numbers, ofBytes}
 use Rattle.decision.proofs.Stored.{partsOf, setIn}
 use Rattle.decision.proofs.ListLaws.{Below, every-part, table-numbers}
-use Rattle.decision.proofs.OutcomeLaws.{Steady, Ruled, Fine, reading-fits, outcome-fine, after-ruled}
+use Rattle.decision.proofs.OutcomeLaws.{Steady, Ruled, OutcomeFits, reading-fits, outcome-fits, after-ruled}
 use Rattle.decision.proofs.Telling.{Any, reading-any, kept-ruled}
 
 abbrev Fits64 : ℕ → Type 0
@@ -70,8 +70,8 @@ made-bounded s q x b m t =
       names = t .names ∙ b .names;
     }
 
-outcome-bounded : (s : State) (q : Option Call) (o : Outcome) → Bounded s → Sound s q o → Fine Any s o → Bounded (stateAfter s o)
-unfolding stateAfter Sound Fine withRule
+outcome-bounded : (s : State) (q : Option Call) (o : Outcome) → Bounded s → Sound s q o → OutcomeFits Any s o → Bounded (stateAfter s o)
+unfolding stateAfter Sound OutcomeFits withRule
 outcome-bounded s q (refuses n) b m f = b
 outcome-bounded s q (loads n r) b m f = record { live = b .live; items = b .items; names = b .names }
 outcome-bounded s q (allows x) b m f = made-bounded s q x b m f
@@ -80,7 +80,7 @@ outcome-bounded s q (modifies n c x) b m f = made-bounded s q x b m (f .2)
 
 step-bounded : (s : State) (x : Step) → Invariant s → Bounded s → Bounded (stepState s x)
 unfolding stepState outcome
-step-bounded s (entry bytes) i b = outcome-bounded s (callOf bytes) _ b (sound s i bytes) (outcome-fine Any s (kept-ruled s i) (reading bytes) (reading-any bytes))
+step-bounded s (entry bytes) i b = outcome-bounded s (callOf bytes) _ b (sound s i bytes) (outcome-fits Any s (kept-ruled s i) (reading bytes) (reading-any bytes))
 step-bounded s memory i b = b
 
 pub state-bounded : (steps : List Step) (k : ℕ) → Bounded (stateAt steps k)
@@ -112,7 +112,7 @@ rule-fits tag v h =
 step-ruled : (s : State) (x : Step) → ofBytes x → Ruled SetFits (s .rules) → Ruled SetFits (stepState s x .rules)
 unfolding stepState ofBytes outcome valueOf
 step-ruled s (entry bytes) f h =
-    after-ruled SetFits s _ (outcome-fine SetFits s h (reading bytes)
+    after-ruled SetFits s _ (outcome-fits SetFits s h (reading bytes)
     (reading-fits SetFits bytes (rule-fits (tagOf bytes) (valueOf bytes) (every-part (λ x. x < 256) 0 (statedLength bytes) 3 bytes (omega arith) f)))) h
 step-ruled s memory f h = h
 

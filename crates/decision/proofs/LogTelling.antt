@@ -12,12 +12,12 @@ use Rattle.decision.specs.Telling.{LogCodesTell}
 unfoldable pub use Rattle.decision.proofs.CodeLaws.{answerIs}
 use Rattle.decision.proofs.CodeLaws.{word-is, codes-tell, code-lt}
 use Rattle.decision.proofs.ListLaws.{Below}
-use Rattle.decision.proofs.OutcomeLaws.{Ruled, after-ruled, outcome-fine}
+use Rattle.decision.proofs.OutcomeLaws.{Ruled, after-ruled, outcome-fits}
 use Rattle.decision.proofs.Telling.{Any, reading-any, view-ruled, outcome-bytes}
 
 next-ruled : (s : State) (bytes : List ℕ) → Ruled Any (s .rules) → Ruled Any (stateAfter s (outcome s bytes) .rules)
 unfolding outcome
-next-ruled s bytes h = after-ruled Any s _ (outcome-fine Any s h (reading bytes) (reading-any bytes)) h
+next-ruled s bytes h = after-ruled Any s _ (outcome-fits Any s h (reading bytes) (reading-any bytes)) h
 
 all-told : (s : State) (rs : List (List ℕ)) → Ruled Any (s .rules) → map wordFrom (codesOf (answerAll s rs .answers)) ≡ answerAll s rs .answers
 unfolding answerAll codesOf CodesTell

@@ -1,4 +1,4 @@
--- What every outcome says, whatever the state and the record (`outcome-fine`): its numbers are bytes, the change that it makes keeps the live
+-- What every outcome says, whatever the state and the record (`outcome-fits`): its numbers are bytes, the change that it makes keeps the live
 -- processes a set and the names as many, and a rule that it loads has room and diverts to a container. So the rules stay few (`after-ruled`). It goes by what was
 -- read, by the first test that holds, and by the lowest broken rule.
 use Prim.Native.Nat.{ℕ, suc, _+_, _^_, _≤_, _<_}
@@ -101,23 +101,23 @@ module _ (Q : Rule → Type 0) where
   ReadingFits (aCall q) = Unit {0}
   ReadingFits (aRule r) = Q r
 
-  unfoldable pub Fine : State → Outcome → Type 0
-  Fine s (refuses n) = n < 256
-  Fine s (loads n r) = (n < 32) × (length (s .rules) < 32) × (r .substitute < 64) × Q r
-  Fine s (allows x) = Steady (s .tables) (x .tables)
-  Fine s (inhibits n) = n < 256
-  Fine s (modifies n c x) = (n < 256) × (c < 64) × Steady (s .tables) (x .tables)
+  unfoldable pub OutcomeFits : State → Outcome → Type 0
+  OutcomeFits s (refuses n) = n < 256
+  OutcomeFits s (loads n r) = (n < 32) × (length (s .rules) < 32) × (r .substitute < 64) × Q r
+  OutcomeFits s (allows x) = Steady (s .tables) (x .tables)
+  OutcomeFits s (inhibits n) = n < 256
+  OutcomeFits s (modifies n c x) = (n < 256) × (c < 64) × Steady (s .tables) (x .tables)
 
-  pub fine-bytes : (s : State) (o : Outcome) → Fine s o → inBytes (answerIs (answerOf o))
-  unfolding Fine answerIs answerOf inBytes
-  fine-bytes s (refuses n) h = h
-  fine-bytes s (loads n r) h = omega (arith, h .0)
-  fine-bytes s (allows x) h = tt
-  fine-bytes s (inhibits n) h = h
-  fine-bytes s (modifies n c x) h = (h .0, omega (arith, h .1))
+  pub fits-bytes : (s : State) (o : Outcome) → OutcomeFits s o → inBytes (answerIs (answerOf o))
+  unfolding OutcomeFits answerIs answerOf inBytes
+  fits-bytes s (refuses n) h = h
+  fits-bytes s (loads n r) h = omega (arith, h .0)
+  fits-bytes s (allows x) h = tt
+  fits-bytes s (inhibits n) h = h
+  fits-bytes s (modifies n c x) h = (h .0, omega (arith, h .1))
 
-  pub after-ruled : (s : State) (o : Outcome) → Fine s o → Ruled (s .rules) → Ruled (stateAfter s o .rules)
-  unfolding stateAfter Fine withRule after
+  pub after-ruled : (s : State) (o : Outcome) → OutcomeFits s o → Ruled (s .rules) → Ruled (stateAfter s o .rules)
+  unfolding stateAfter OutcomeFits withRule after
   after-ruled s (refuses n) f h = h
   after-ruled s (loads n r) f h =
       record {
@@ -138,38 +138,38 @@ module _ (Q : Rule → Type 0) where
       go (some n) e = first-small (frameTests bytes) n refl e
 
   module _ (s : State) (ruled : Ruled (s .rules)) where
-    stopped-fine : (q : Call) (n : ℕ) (r : Rule) → n < 256 → r .substitute < 64 → Fine s (stopped s q n r)
-    unfolding stopped Fine diversion
-    stopped-fine q n r hn hr =
-        choice (Fine s) (mayDivert s q r) _ _
-        (λ e. choice (Fine s) (breaksNone (after s (diversion s q r))) _ _ (λ f. (hn, hr, record { live = λ l. l; names = refl })) (λ f. hn))
+    stopped-fits : (q : Call) (n : ℕ) (r : Rule) → n < 256 → r .substitute < 64 → OutcomeFits s (stopped s q n r)
+    unfolding stopped OutcomeFits diversion
+    stopped-fits q n r hn hr =
+        choice (OutcomeFits s) (mayDivert s q r) _ _
+        (λ e. choice (OutcomeFits s) (breaksNone (after s (diversion s q r))) _ _ (λ f. (hn, hr, record { live = λ l. l; names = refl })) (λ f. hn))
         (λ e. hn)
 
-    verdict-fine : (q : Call) (o : Option Numbered) → fieldsFit (ranges (q .kind)) q ≡ true → SmallRule o → Fine s (verdictBy s q o)
-    unfolding verdictBy Fine change SmallRule
-    verdict-fine q none h l = steady-after (s .tables) (q .process) (q .a) (q .b) (q .c) (q .kind) h
-    verdict-fine q (some x) h l = stopped-fine q (x .number) (x .rule) (l .0) (l .1)
+    verdict-fits : (q : Call) (o : Option Numbered) → fieldsFit (ranges (q .kind)) q ≡ true → SmallRule o → OutcomeFits s (verdictBy s q o)
+    unfolding verdictBy OutcomeFits change SmallRule
+    verdict-fits q none h l = steady-after (s .tables) (q .process) (q .a) (q .b) (q .c) (q .kind) h
+    verdict-fits q (some x) h l = stopped-fits q (x .number) (x .rule) (l .0) (l .1)
 
-    call-fine : (q : Option Call) (o : Option ℕ) → firstThat (callTests (s .tables) q) ≡ o → Fine s (outcomeOfCall s q o)
-    unfolding outcomeOfCall verdict Fine callTests AllFalse lowestBroken after smallTests
-    call-fine none none e = omega arith
-    call-fine (some q) none e =
+    call-fits : (q : Option Call) (o : Option ℕ) → firstThat (callTests (s .tables) q) ≡ o → OutcomeFits s (outcomeOfCall s q o)
+    unfolding outcomeOfCall verdict OutcomeFits callTests AllFalse lowestBroken after smallTests
+    call-fits none none e = omega arith
+    call-fits (some q) none e =
         let l : length (s .rules) ≤ 32 = ruled .counted in
-        verdict-fine q _ (not-false (fieldsFit (ranges (q .kind)) q) (all-false (callTests (s .tables) (some q)) e .0))
+        verdict-fits q _ (not-false (fieldsFit (ranges (q .kind)) q) (all-false (callTests (s .tables) (some q)) e .0))
         (first-broken (after s (change (s .tables) q)) 0 (s .rules) (omega arith) (ruled .diverted))
-    call-fine none (some n) e = first-small (callTests (s .tables) none) n refl e
-    call-fine (some q) (some n) e = first-small (callTests (s .tables) (some q)) n refl e
+    call-fits none (some n) e = first-small (callTests (s .tables) none) n refl e
+    call-fits (some q) (some n) e = first-small (callTests (s .tables) (some q)) n refl e
 
-    rule-fine : (r : Rule) (o : Option ℕ) → firstThat (ruleTests s r) ≡ o → Q r → Fine s (outcomeOfRule s r o)
-    unfolding outcomeOfRule Fine ruleTests fieldTests AllFalse smallTests
-    rule-fine r none e f =
+    rule-fits : (r : Rule) (o : Option ℕ) → firstThat (ruleTests s r) ≡ o → Q r → OutcomeFits s (outcomeOfRule s r o)
+    unfolding outcomeOfRule OutcomeFits ruleTests fieldTests AllFalse smallTests
+    rule-fits r none e f =
         let h = all-false (ruleTests s r) e in
         let l : length (s .rules) < 32 = leb-false 32 (length (s .rules)) (h .1 .1 .1 .0) in
         (l, l, fit-substitute r (first-of-none (fieldTests r) (h .0, (h .1 .0, (h .1 .1 .0, tt)))), f)
-    rule-fine r (some n) e f = first-small (ruleTests s r) n refl e
+    rule-fits r (some n) e f = first-small (ruleTests s r) n refl e
 
-    pub outcome-fine : (y : Reading) → ReadingFits y → Fine s (outcomeOf s y)
-    unfolding outcomeOf Fine ReadingFits
-    outcome-fine (unreadable n) h = h
-    outcome-fine (aCall q) h = call-fine q _ refl
-    outcome-fine (aRule r) h = rule-fine r _ refl h
+    pub outcome-fits : (y : Reading) → ReadingFits y → OutcomeFits s (outcomeOf s y)
+    unfolding outcomeOf OutcomeFits ReadingFits
+    outcome-fits (unreadable n) h = h
+    outcome-fits (aCall q) h = call-fits q _ refl
+    outcome-fits (aRule r) h = rule-fits r _ refl h

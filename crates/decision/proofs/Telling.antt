@@ -21,7 +21,7 @@ use Rattle.decision.specs.Telling.{AnswersInBytes}
 use Rattle.decision.proofs.CodeLaws.{answerIs, answer-is}
 use Rattle.decision.proofs.Stored.{blank, formed-at, substitute-lt}
 use Rattle.decision.proofs.ListLaws.{every-table}
-use Rattle.decision.proofs.OutcomeLaws.{Ruled, ReadingFits, fine-bytes, reading-fits, outcome-fine}
+use Rattle.decision.proofs.OutcomeLaws.{Ruled, ReadingFits, fits-bytes, reading-fits, outcome-fits}
 
 -- nothing is asked of the rules that are read
 abbrev pub Any : Rule → Type 0
@@ -47,7 +47,7 @@ view-ruled m =
 -- ---- the answers
 module _ (s : State) (ruled : Ruled Any (s .rules)) where
   read-bytes : (y : Reading) → ReadingFits Any y → inBytes (answerIs (answerOf (outcomeOf s y)))
-  read-bytes y f = fine-bytes Any s _ (outcome-fine Any s ruled y f)
+  read-bytes y f = fits-bytes Any s _ (outcome-fits Any s ruled y f)
 
   pub outcome-bytes : (bytes : List ℕ) → inBytes (answerIs (answerOf (outcome s bytes)))
   unfolding outcome
