@@ -31,6 +31,22 @@ keeps items plan v i = has (getD items v 0) i && not (has (plan .empty) v)
 unfoldable pub someKeeps : List ℕ → Plan → ℕ → ℕ → Bool
 someKeeps items plan set i = someBelow containerCount (λ v. has set v && keeps items plan v i)
 
+-- the set x where b holds, else the empty set
+unfoldable pub onlyIf : Bool → ℕ → ℕ
+onlyIf b x = elim b [ true ↦ x | false ↦ 0 ]
+
+-- r has the items of the set's containers
+pub record Held (items : List ℕ) (set r : ℕ) : Type 0 where
+  pub has-item : (i : ℕ) → has r i ≡ someBelow containerCount (λ v. has set v && has (getD items v 0) i)
+
+-- r has the items that the set's containers hold once the plan is made: they keep them or get them
+pub record Met (items : List ℕ) (plan : Plan) (set r : ℕ) : Type 0 where
+  pub has-item : (i : ℕ) → has r i ≡ someBelow containerCount (λ v. has set v && (keeps items plan v i || has (gets plan i) v))
+
+-- of items i and j one is given, and the other is met where the gift goes
+unfoldable pub meet : ℕ → ℕ → ℕ → ℕ → Bool
+meet given met i j = (has given i && has met j) || (has given j && has met i)
+
 -- What the plan makes of a state s, as far as judging goes by it, where t is the state after the call. What t holds was kept or given; what is
 -- given is held; and what gets anything has what it kept.
 pub record Planned (s t : State) (plan : Plan) : Type 0 where
