@@ -16,7 +16,7 @@ use Rattle.flow.proofs.Bools.{or-false-l, or-false-r, or-false-i, chosen-r}
 use Rattle.flow.proofs.TableLaws.{none-below}
 use Rattle.store.specs.declared.Plan.{Plan}
 use Rattle.rules.specs.Stored.{ruleAt, countOf}
-use Rattle.rules.specs.Judging.{share, gets, keeps, someKeeps, breaksAnew, touches, firstFrom, firstAnew, Judged}
+use Rattle.rules.specs.Judging.{share, gets, keeps, someKeeps, breaksAnew, touches, firstFrom, firstAnew, breaksRule, anewFrom, Judged}
 use Rattle.rules.proofs.Searching.{first-none}
 use Rattle.rules.proofs.ConditionLaws.{forbids-by, confines-by, touches-rest}
 
@@ -73,14 +73,14 @@ module _ (plan : Plan) where
   none-touched e (separate i j) = rw e (or-false-i (has 0 i) (has 0 j) (none-has i) (none-has j))
   none-touched e (confine i x) = rw e (none-has i)
 
-  pub nothing-given : gained ≡ 0 → (items sets fields : List ℕ) → countOf fields ≡ firstFrom (countOf fields - 0) 0 (λ k. breaksAnew items plan (ruleAt sets fields k .condition))
+  pub nothing-given : gained ≡ 0 → (items sets fields : List ℕ) → countOf fields ≡ anewFrom items plan sets fields 0
   nothing-given e items sets fields =
       sym (first-none (countOf fields - 0) 0 _ (λ k. let c = ruleAt sets fields k .condition in untouched items c (none-touched e c))
       ∙ (let z : 0 + (countOf fields - 0) ≡ countOf fields = omega arith in z))
 
 -- judging from rule 0 on
 pub judges : (items : List ℕ) (plan : Plan) (sets fields : List ℕ) (r : ℕ) → plan .to < 2 ^ 64 → plan .to2 < 2 ^ 64
-    → r ≡ firstFrom (countOf fields - 0) 0 (λ k. breaksAnew items plan (ruleAt sets fields k .condition)) → Judged items plan sets fields r
+    → r ≡ anewFrom items plan sets fields 0 → Judged items plan sets fields r
 unfolding firstAnew
 judges items plan sets fields r h k e =
-    record { small = h; small2 = k; number = e ∙ ap (λ (n : ℕ). firstFrom n 0 (λ k. breaksAnew items plan (ruleAt sets fields k .condition))) (let z : countOf fields - 0 ≡ countOf fields = omega arith in z) }
+    record { small = h; small2 = k; number = e ∙ ap (λ (n : ℕ). firstFrom n 0 (breaksRule items plan sets fields)) (let z : countOf fields - 0 ≡ countOf fields = omega arith in z) }

@@ -1,5 +1,5 @@
 -- A planned call is judged before anything is stored (01, What a record gets): which rules it breaks that were whole before it.
-use Prim.Native.Nat.{ℕ, zero, suc, _<_, _^_}
+use Prim.Native.Nat.{ℕ, zero, suc, _-_, _<_, _^_}
 use mathlib.Core.Path.{_≡_}
 use mathlib.Core.Bool.{Bool, true, false, not, _&&_, _||_}
 use mathlib.Core.List.{List}
@@ -78,6 +78,14 @@ firstFrom (suc n) k f = elim (f k) [ true ↦ k | false ↦ firstFrom n (suc k) 
 -- the number of the first loaded rule that the plan breaks anew, and how many are loaded where it breaks none
 unfoldable pub firstAnew : List ℕ → Plan → List ℕ → List ℕ → ℕ
 firstAnew items plan sets fields = firstFrom (countOf fields) 0 (λ k. breaksAnew items plan (ruleAt sets fields k .condition))
+
+-- the plan breaks rule k anew
+abbrev pub breaksRule : List ℕ → Plan → List ℕ → List ℕ → ℕ → Bool
+breaksRule items plan sets fields k = breaksAnew items plan (ruleAt sets fields k .condition)
+
+-- the first of the rules from k on that it breaks anew, and the number behind them where it breaks none
+abbrev pub anewFrom : List ℕ → Plan → List ℕ → List ℕ → ℕ → ℕ
+anewFrom items plan sets fields k = firstFrom (countOf fields - k) k (breaksRule items plan sets fields)
 
 -- the number that judging answers; the plan's sets are of containers
 pub record Judged (items : List ℕ) (plan : Plan) (sets fields : List ℕ) (r : ℕ) : Type 0 where

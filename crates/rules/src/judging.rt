@@ -1,13 +1,12 @@
 // Whether a planned call breaks rules that were whole, by the items before it (document 01, What a record gets).
-ghost use Prim.Native.Nat.{ℕ, _-_, _%_};
+ghost use Prim.Native.Nat.{ℕ, _%_};
 ghost use mathlib.Core.Path.{_≡_};
 ghost use mathlib.Core.Bool.{_&&_, _||_};
 ghost use mathlib.Core.List.{List};
 ghost use Rattle.sets.specs.Sets.{has as hasOf};
 ghost use Rattle.flow.specs.Records.{conditionOf};
 ghost use Rattle.store.specs.Maps.{itemsIn};
-ghost use Rattle.rules.specs.Stored.{ruleAt, countOf};
-ghost use Rattle.rules.specs.Judging.{gets as getsOf, onlyIf, Held, Met, meet as meetOf, breaksAnew, touches as touchesOf, firstFrom, Judged};
+ghost use Rattle.rules.specs.Judging.{gets as getsOf, onlyIf, Held, Met, meet as meetOf, breaksAnew, touches as touchesOf, anewFrom, Judged};
 use crate::stored::FIELDS_EACH;
 use crate::stored::FORBID_TAG;
 use crate::stored::ITEM_FIELD;
@@ -142,7 +141,7 @@ fn breaks_anew(plan: Plan, first: u64, second: u64, tag: u8, item: u8, set: u64)
 
 // Judges from rule `start` on.
 fn judge_from(words: &[u64; 97], plan: Plan, sets: &[u64; 32], fields: &[u8; 129], start: u8) -> u8
-    ensures { λ r. ⌜ r ≡ firstFrom (countOf (now (fields .entry)) - start) start (λ k. breaksAnew (itemsIn (now (words .entry))) plan (ruleAt (now (sets .entry)) (now (fields .entry)) k .condition)) ⌝ }
+    ensures { λ r. ⌜ r ≡ anewFrom (itemsIn (now (words .entry))) plan (now (sets .entry)) (now (fields .entry)) start ⌝ }
 {
     let first = met(words, plan, plan.to);
     let second = met(words, plan, plan.to2);

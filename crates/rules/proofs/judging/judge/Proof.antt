@@ -2,8 +2,6 @@
 use Prim.Native.Nat.{ℕ, _-_, _^_, _≤_, _<_}
 use mathlib.Core.Path.{_≡_, refl, sym, _∙_}
 use mathlib.Core.Logic.{⊎-elim}
-use mathlib.Core.Bool.{Bool, false}
-use mathlib.Core.List.{List}
 use native.Mathlib.Omega.{arith}
 use mir.Val.{Fits}
 use mir.Syntax.{w64}
@@ -11,27 +9,23 @@ use borrow.Author.Needs.{needs}
 use Rattle.sets.specs.Sets.{_∪_}
 use Rattle.sets.proofs.Members.{union-lt}
 use Rattle.store.specs.Maps.{itemsIn}
-use Rattle.store.specs.declared.Plan.{Plan}
-use Rattle.rules.specs.Stored.{ruleAt, conditionAt, countOf}
-use Rattle.rules.specs.Judging.{breaksAnew, firstFrom, Judged}
+use Rattle.rules.specs.Stored.{conditionAt, countOf}
+use Rattle.rules.specs.Judging.{breaksRule, anewFrom, Judged}
 use Rattle.rules.proofs.Searching.{Seek, seek-hit, seek-miss, seek-end}
 use Rattle.rules.proofs.StoredLaws.{count-le}
 use Rattle.rules.proofs.AnewLaws.{far, nothing-given, judges}
 use Rattle.rules.proofs.judging.judge.Statement.{statement}
 use Rattle.rules.proofs.judging.judge.Tie as tie
 
-abbrev breaks : List ℕ → Plan → List ℕ → List ℕ → ℕ → Bool
-breaks words plan sets fields k = breaksAnew (itemsIn words) plan (ruleAt sets fields k .condition)
-
 abbrev Inv-loop : tie.InvT-loop
 Inv-loop words plan sets fields end given k₀ k =
-    (end ≤ 32) × (end ≡ countOf fields) × Seek (breaks words plan sets fields) (countOf fields) 0 k
+    (end ≤ 32) × (end ≡ countOf fields) × Seek (breaksRule (itemsIn words) plan sets fields) (countOf fields) 0 k
 
 abbrev μ-loop : tie.MeasureT-loop
 μ-loop words plan sets fields end given k₀ k = end - k
 
 answer : (c : tie.Start Inv-loop μ-loop) (r : ℕ)
-    → r ≡ firstFrom (countOf (c .args .fields .now) - 0) 0 (breaks (c .args .words .now) (c .args .plan) (c .args .sets .now) (c .args .fields .now))
+    → r ≡ anewFrom (itemsIn (c .args .words .now)) (c .args .plan) (c .args .sets .now) (c .args .fields .now) 0
     → Judged (itemsIn (c .args .words .now)) (c .args .plan) (c .args .sets .now) (c .args .fields .now) r
 answer c r e =
     let x : Fits w64 (c .args .plan .to) = search needs in

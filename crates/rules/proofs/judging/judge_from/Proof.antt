@@ -1,25 +1,19 @@
 -- `judge_from` finds the first rule from `start` on that breaks anew.
-use Prim.Native.Nat.{ℕ, _-_, _≤_}
+use Prim.Native.Nat.{_-_, _≤_}
 use mathlib.Core.Path.{_≡_, refl, sym, _∙_}
-use mathlib.Core.Bool.{Bool}
-use mathlib.Core.List.{List}
 use native.Mathlib.Omega.{arith}
 use borrow.Author.Needs.{needs}
 use Rattle.store.specs.Maps.{itemsIn}
-use Rattle.store.specs.declared.Plan.{Plan}
-use Rattle.rules.specs.Stored.{ruleAt, conditionAt, countOf}
-use Rattle.rules.specs.Judging.{breaksAnew}
+use Rattle.rules.specs.Stored.{conditionAt, countOf}
+use Rattle.rules.specs.Judging.{breaksRule}
 use Rattle.rules.proofs.Searching.{Seek, seek-hit, seek-miss, seek-end}
 use Rattle.rules.proofs.StoredLaws.{count-le}
 use Rattle.rules.proofs.judging.judge_from.Statement.{statement}
 use Rattle.rules.proofs.judging.judge_from.Tie as tie
 
-abbrev breaks : List ℕ → Plan → List ℕ → List ℕ → ℕ → Bool
-breaks words plan sets fields k = breaksAnew (itemsIn words) plan (ruleAt sets fields k .condition)
-
 abbrev Inv-loop : tie.InvT-loop
 Inv-loop words plan sets fields start first second end k₀ k =
-    (end ≤ 32) × (end ≡ countOf fields) × Seek (breaks words plan sets fields) (countOf fields) start k
+    (end ≤ 32) × (end ≡ countOf fields) × Seek (breaksRule (itemsIn words) plan sets fields) (countOf fields) start k
 
 abbrev μ-loop : tie.MeasureT-loop
 μ-loop words plan sets fields start first second end k₀ k = end - k
