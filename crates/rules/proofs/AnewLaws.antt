@@ -2,23 +2,22 @@
 use Prim.Native.Nat.{ℕ, _+_, _-_, _%_, _^_, _<_}
 use native.Mathlib.Omega.{arith}
 use mathlib.Core.Path.{_≡_, refl, sym, ap, ap₂, _∙_}
-use mathlib.Core.Bool.{Bool, true, false, not, _&&_, _||_}
+use mathlib.Core.Bool.{Bool, false, not, _&&_, _||_, and-false}
 use mathlib.Core.List.{List}
 use lib.Bits.{or-zero-r, and-zero-l}
 use lib.Dec.{eqb}
-use borrow.Author.Tests.{eq-eqb, ne-eqb}
 use Rattle.sets.specs.Sets.{has, _∪_, _∩_}
 use Rattle.sets.proofs.Members.{union-has, none-has}
 use Rattle.flow.specs.Box.{Condition, forbid, separate, confine}
 use Rattle.flow.specs.Links.{meets}
 use Rattle.flow.specs.Records.{conditionOf}
-use Rattle.flow.proofs.Bools.{or-false-l, or-false-r, or-false-i, chosen-r}
+use Rattle.flow.proofs.Bools.{or-false-l, or-false-r, chosen-r}
 use Rattle.flow.proofs.TableLaws.{none-below}
 use Rattle.store.specs.declared.Plan.{Plan}
-use Rattle.rules.specs.Stored.{ruleAt, countOf}
+use Rattle.rules.specs.Stored.{conditionAt, countOf}
 use Rattle.rules.specs.Judging.{share, gets, keeps, someKeeps, breaksAnew, touches, firstFrom, firstAnew, breaksRule, anewFrom, Judged}
 use Rattle.rules.proofs.Searching.{first-none}
-use Rattle.rules.proofs.ConditionLaws.{forbids-by, confines-by, touches-rest}
+use Rattle.rules.proofs.ConditionLaws.{forbids-by, confines-by, touches-is, touches-rest}
 
 -- ---- x gets the item
 module _ (items : List ℕ) (plan : Plan) (tag item set x : ℕ) (e : x ≡ gets plan item) where
@@ -67,15 +66,13 @@ module _ (plan : Plan) where
       → breaksAnew items plan (conditionOf tag item set) ≡ false
   far items tag item set h e = untouched items (conditionOf tag item set) (touches-rest tag item set gained h e)
 
-  none-touched : gained ≡ 0 → (c : Condition) → touches gained c ≡ false
-  unfolding touches
-  none-touched e (forbid i x) = rw e (none-has i)
-  none-touched e (separate i j) = rw e (or-false-i (has 0 i) (has 0 j) (none-has i) (none-has j))
-  none-touched e (confine i x) = rw e (none-has i)
+  none-touched : gained ≡ 0 → (tag item set : ℕ) → touches gained (conditionOf tag item set) ≡ false
+  none-touched e tag item set = touches-is tag item set gained ∙ rw (e, none-has item, none-has set) (and-false (eqb tag 0x12))
 
   pub nothing-given : gained ≡ 0 → (items sets fields : List ℕ) → countOf fields ≡ anewFrom items plan sets fields 0
+  unfolding conditionAt
   nothing-given e items sets fields =
-      sym (first-none (countOf fields - 0) 0 _ (λ k. let c = ruleAt sets fields k .condition in untouched items c (none-touched e c))
+      sym (first-none (countOf fields - 0) 0 _ (λ k. untouched items _ (none-touched e _ _ _))
       ∙ (let z : 0 + (countOf fields - 0) ≡ countOf fields = omega arith in z))
 
 -- judging from rule 0 on
