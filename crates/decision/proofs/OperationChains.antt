@@ -2,13 +2,13 @@
 use Prim.Native.Nat.{ℕ, zero, suc, _^_, _<_}
 use native.Mathlib.Omega.{arith}
 use mathlib.Core.Path.{_≡_, refl, sym, ap, subst, _∙_}
-use mathlib.Core.Bool.{Bool, true}
+use mathlib.Core.Bool.{Bool, true, false}
 use mathlib.Core.List.{List, [], _∷_, map}
 use mathlib.Core.Option.{none}
 use lib.ListN.{length, take}
 use lib.Seq.{take-nil, take-all}
 use lib.Pow.{pow-pos}
-use borrow.Author.Tests.{le-leb}
+use borrow.Author.Tests.{le-leb, lt-leb}
 use Rattle.flow.specs.Box.{State, fresh}
 use Rattle.flow.specs.Rules.{lowestBroken}
 use Rattle.flow.specs.Records.{reading, recordsOf}
@@ -17,14 +17,14 @@ use Rattle.flow.specs.Contents.{Step, entry, stepState, stateAt}
 use Rattle.flow.specs.Consequences.{OneAnswerEach}
 use Rattle.flow.proofs.Consequences.{one-answer-each}
 use Rattle.flow.proofs.Keeping.{state-kept}
-use Rattle.tracker.specs.declared.queries.Reply.the-variants.{Result}
+use Rattle.tracker.specs.declared.queries.Reply.the-variants.{Result, Refused}
 use Rattle.tracker.specs.Replies.{replyOf}
 use Rattle.decision.specs.declared.Answer.{Answer}
 use Rattle.decision.specs.declared.Answer.the-variants.{Allow}
 use Rattle.decision.specs.View.{view}
 use Rattle.decision.specs.Answers.{wordOf, Sound}
 use Rattle.decision.specs.Logs.{codeOf, inBytes, codesOf, roomFor, AnswersLogBy, AnswersLog}
-use Rattle.decision.specs.Chains.{callRecord, CallIsRecord, given, called, moves, stepOf, Operation, event, run, stepsOf, allSteps, moment, operationAt, AnswersRun, AnswersOperation, OperationChainExists}
+use Rattle.decision.specs.Chains.{callRecord, CallIsRecord, given, called, moves, stepOf, Operation, event, run, short, stepsOf, allSteps, moment, operationAt, AnswersRun, AnswersOperation, OperationChainExists}
 use Rattle.decision.proofs.HookLaws.{call-is-record}
 use Rattle.decision.proofs.Stored.{held}
 use Rattle.decision.proofs.Telling.{small, small-bytes, Ruled, kept-ruled, outcome-small}
@@ -68,13 +68,15 @@ codes-below s (r ∷ rs) h (suc k) = codes-below (stateAfter s (outcome s r)) rs
 unfoldable answerBy : State → Operation → Answer
 answerBy s (event e) = answerTo s (stepOf e)
 answerBy s (run log) = Allow
+answerBy s (short log some) = Allow
 
 unfoldable codesBy : State → Operation → List ℕ
 codesBy s (event e) = []
 codesBy s (run log) = codesOf (runLog s log .answers)
+codesBy s (short log some) = []
 
 module _ (s : State) (v : view (held s) ≡ s) where
-  run-answered : (log : List ℕ) → (let t = stateBy s (map entry (recordsOf log)) in view (held t) ≡ t → lowestBroken t ≡ none → AnswersRun (held s) log (codesOf (runLog s log .answers)) (held t))
+  run-answered : (log : List ℕ) → (let t = stateBy s (map entry (recordsOf log)) in view (held t) ≡ t → lowestBroken t ≡ none → AnswersRun true (held s) log (codesOf (runLog s log .answers)) (held t))
   unfolding AnswersLog AnswersLogBy roomFor replyOf Sound OneAnswerEach runLog
   run-answered log w u =
       let n : ℕ = length (recordsOf log) in
@@ -98,6 +100,17 @@ module _ (s : State) (v : view (held s) ≡ s) where
             );
       }
 
+  short-answered : (log : List ℕ) → 0 < length (recordsOf log) → AnswersRun false (held s) log [] (held s)
+  unfolding AnswersLog AnswersLogBy roomFor replyOf
+  short-answered log some =
+      let room : roomFor log [] ≡ false = lt-leb (length (recordsOf log)) 0 some in
+      record {
+        before = [];
+        reply = Refused 13;
+        room = room;
+        answers = subst (λ (b : Bool). AnswersLogBy b (held s) log [] (record { reply = Refused 13; monitor = held s }) []) (sym room) (refl, refl, refl);
+      }
+
   operation-answered : (o : Operation) → (let t = stateBy s (stepsOf o) in view (held t) ≡ t → lowestBroken t ≡ none → AnswersOperation o (held s) (answerBy s o) (codesBy s o) (held t))
   unfolding AnswersOperation stepsOf stepOf stateBy stepState answerBy answerTo codesBy CallIsRecord
   operation-answered (event (given bytes)) w u = record-answered s bytes v w u
@@ -106,6 +119,7 @@ module _ (s : State) (v : view (held s) ≡ s) where
       (record-answered s (callRecord kind p d e f) v w u)
   operation-answered (event moves) w u = refl
   operation-answered (run log) w u = run-answered log w u
+  operation-answered (short log some) w u = short-answered log some
 
   answer-small : Ruled s → (o : Operation) → inBytes (answerBy s o)
   unfolding answerBy answerTo stepOf small wordOf
@@ -115,11 +129,13 @@ module _ (s : State) (v : view (held s) ≡ s) where
       small-bytes (answerFor (outcome s bytes)) (rw (word-for (outcome s bytes)) (outcome-small s h bytes))
   answer-small h (event moves) = small-bytes Allow tt
   answer-small h (run log) = small-bytes Allow tt
+  answer-small h (short log some) = small-bytes Allow tt
 
   codes-small : Ruled s → (o : Operation) → Below (2 ^ 32) (codesBy s o)
   unfolding codesBy runLog
   codes-small h (event e) = λ k. pow-pos 32
   codes-small h (run log) = codes-below s (recordsOf log) h
+  codes-small h (short log some) = λ k. pow-pos 32
 
 -- ---- all operations
 module _ (os : List Operation) where
