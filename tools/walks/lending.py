@@ -17,13 +17,46 @@ class Field:
         self.former = "MutRef" if mode == "mut" else "ShrRef"
 
 
+class Built:
+    """A struct of numbers that is built of parameters and passed by value."""
+
+    given, ref = False, 0
+
+    def __init__(self, name, struct, fields, args, letter):
+        dash, value = dashed(name), "vnil"
+        self.name, self.struct, self.args, self.letter = dash, struct, args, letter
+        self.x, self.mach, self.made = f"x-{dash}", f"mach-{dash}", f"made-{dash}"
+        self.passed, self.value = self.x, f"{self.mach} ∷ []"
+        self.fields = "; ".join(f"{spelled(f)} = {a.x}" for f, a in zip(fields, args))
+        for a in reversed(args):
+            value = f"(vcons (vint {a.type.width} {a.x}) {value})"
+        self.machine = f"vstruct {value}"
+        self.owed = nest([f"(refl, fits-{a.name})" for a in args])
+        self.typed = f"(tt, {nest([f'record {{ fits = fits-{a.name} }}' for a in args])})"
+        self.makes = f"(LL.makes {letter}.the-type {letter}′.the-plain 𝓤 H A)"
+
+    def row(self, _):
+        return f"{self.letter}.the-row"
+
+
 class Lending(Walk):
     """fn f(m: &mut S, ..) -> u32 { callee(&mut m.x, &m.y, .., ..) }"""
 
-    def __init__(self, hook, callee, state, fields, args, result):
+    def __init__(self, hook, callee, state, fields, args, built, result):
+        """`built`: for each struct passed by value its place among the parameters that follow,
+        its name there, its crate and path, and its fields, which take the next of `args`."""
         self.fields, self.result = fields, result
         self.lent = [f for f in fields if f.mode]
-        super().__init__(hook, callee, state, args, len(self.lent))
+        super().__init__(hook, callee, state, args)
+        self.operands = list(self.args)
+        for k, (place, name, struct, names) in enumerate(built):
+            taken = self.operands[place : place + len(names)]
+            letter = "PQR"[k]
+            self.operands[place : place + len(names)] = [Built(name, struct, names, taken, letter)]
+            self.declared(struct, letter)
+        self.built = [p for p in self.operands if isinstance(p, Built)]
+        for k, operand in enumerate(self.operands):
+            operand.called = len(self.lent) + k
         self.share = "s" if self.shared else "fullShare"
         self.kind = result.value if result else "Unit {0}"
         self.ghosts = "".join(f" {f.nu}" for f in self.lent)
@@ -96,8 +129,15 @@ class Lending(Walk):
             self.define(f"{f.own} ν δ", "ℕ → GName → Fml", own)
         kappas = nest([f"{f.nu} ∷ []" for f in self.lent] + [a.kappa for a in self.refs])
         shares = nest(["fullShare"] * len(self.lent) + [a.share for a in self.refs])
-        handed = nest([f"{f.ref} {f.delta}" for f in self.lent] + [a.passed for a in self.args])
-        values = [f"vptr b {f.place} ∷ []" for f in self.lent] + [a.value for a in self.args]
+        for p in self.built:
+            self.put("-- a struct that is passed by value, and its machine value", 2)
+            self.define(p.x, p.struct[1][-1], f"record {{ {p.fields} }}")
+            self.define(p.mach, "Val", p.machine)
+            laws = f"LL.owes {p.letter}.the-type {p.letter}′.the-laws {p.x} {p.owed}"
+            self.define(p.made, f"Is {p.row(0)} {p.x} ({p.value})", laws, short=False)
+        handed = [f"{f.ref} {f.delta}" for f in self.lent]
+        handed = nest(handed + [p.passed for p in self.operands])
+        values = [f"vptr b {f.place} ∷ []" for f in self.lent] + [p.value for p in self.operands]
         ghost = f"(({kappas}, {shares}, tt, {handed}, {nest(values)}), tt)"
         self.put("-- what the callee's triple binds outside, and what it asks", 2)
         self.define(f"to-step{self.ghosts}", f"{self.arrows}{STEP} .Ghost", ghost)
@@ -106,9 +146,9 @@ class Lending(Walk):
         rows, lifetime = [], len(self.lent)
         for k, f in enumerate(self.lent):
             rows.append(f"{f.former} (named {k}) {f.lft} {f.row}")
-        for a in self.args:
-            rows.append(a.row(lifetime))
-            lifetime += a.ref
+        for p in self.operands:
+            rows.append(p.row(lifetime))
+            lifetime += p.ref
         owns = f"‵ (owns ({consed(rows)}) {handed} {nest(values)})"
         asks = f"((({self.tokens}) ⊛ {owns}) ∷ [])"
         self.define(
@@ -119,7 +159,7 @@ class Lending(Walk):
         )
         self.put("-- what the callee leaves, the struct after it, and what it says of them", 2)
         lasts = [f.type.value if f.mode == "mut" else "Unit {0}" for f in self.lent]
-        lasts += [a.now if a.given else "Unit {0}" for a in self.args]
+        lasts += [p.now if p.given else "Unit {0}" for p in self.operands]
         self.define("Lasts", "Type 0", product(lasts))
         record = "; ".join(f"{spelled(f.name)} = {self.last(f)}" for f in self.fields)
         self.define("after zs", f"Lasts → {self.state}", f"record {{ {record} }}")
@@ -159,18 +199,21 @@ class Lending(Walk):
         for f in self.lent:
             f.local, spot = spot, spot + 1
         for k, a in enumerate(self.args):
-            a.local = 2 + k
-            if a.given:
-                a.local = spot + a.slice
-                spot = a.local + 1
+            a.local = a.home = 2 + k
+        for p in self.operands:
+            if p.given or p in self.built:
+                p.local = spot + (p.given and p.slice)
+                spot = p.local + 1
         s = Steps(spot, ["tokens", "owns"])
         self.enter(s)
         s.note("the addresses that are passed")
         for f in self.lent:
             s.assign(f"(addr ! (from ! (hop ! {s.local(1)} (fld ! refl (stop !)))))", f.local)
-        for k, a in enumerate(self.args):
-            if a.given:
-                self.pass_on(s, a, 2 + k)
+        for p in self.operands:
+            if p.given:
+                self.pass_on(s, p, p.home)
+            elif p in self.built:
+                s.assign(f"(agg ! {s.operands([a.home for a in p.args])})", p.local, p.typed)
         self.open(s)
         for f in self.lent:
             s.add(f"lft-new ! tt (λ {f.nu}.")
@@ -178,7 +221,8 @@ class Lending(Walk):
         for k, f in enumerate(self.fields):
             self.lend(s, f)
         s.note("what the callee asks is put together, and it is called")
-        s.pack([f"own .{f.name}" for f in self.lent], "rest", "fjoin")
+        owned = self.own_operands(s) if self.built else []
+        s.pack([f"own .{f.name}" for f in self.lent] + owned, "rest", "fjoin")
         s.add("nothing ! $")
         s.push("handed")
         lfts = [f"lft .{f.name}" for f in self.lent] + [f"lft {a.x}" for a in self.refs]
@@ -187,7 +231,7 @@ class Lending(Walk):
         asked = f"raw ({STEP} .pre (to-step{self.ghosts}))"
         s.add(f"join ! $ use1 W ({asked}) (goes-step{self.ghosts}) $")
         s.become(2, "asked")
-        operands = s.operands([p.local for p in self.lent + self.args])
+        operands = s.operands([p.local for p in self.lent + self.operands])
         s.add(f"calls-at ! fm ({STEP}) known (to-step{self.ghosts}) {operands} (λ v.")
         self.hear(s)
         self.come_back(s)
@@ -196,6 +240,17 @@ class Lending(Walk):
         s.leave()
         s.keep(self.kept, f"exits {self.names}")
         return s
+
+    def own_operands(self, s):
+        """What is passed on is owned by itself, and a struct by what its numbers are."""
+        for a in self.args:
+            s.front("rest")
+            s.add("fsplit ! $")
+            s.become(1, f"own {a.x}", "rest")
+        for p in self.built:
+            s.add(f"owned ! {p.row(0)} (Is {p.row(0)}) {p.makes} {p.x} _ {p.made} $")
+            s.push(f"own {p.x}")
+        return [f"own {p.x}" for p in self.operands]
 
     def pass_on(self, s, arg, home):
         """A `&mut` is lent on: its address is taken anew."""
@@ -255,7 +310,7 @@ class Lending(Walk):
     def hear(self, s):
         row = self.result.row if self.result else "unit"
         self.heard(s, self.tokens, self.kind, row, self.ghosts)
-        for name in [f".{f.name}" for f in self.lent] + [a.x for a in self.args]:
+        for name in [f".{f.name}" for f in self.lent] + [p.x for p in self.operands]:
             s.front("lasts")
             s.add("fsplit ! $")
             s.become(1, f"last {name}", "lasts")

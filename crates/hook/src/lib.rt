@@ -15,6 +15,7 @@ use lent::holders_lent;
 use lent::items_lent;
 use lent::run_lent;
 use logreader::end_after;
+use tracker::Call;
 
 // Makes a fresh monitor without rules.
 #[no_mangle]
@@ -41,11 +42,13 @@ pub extern "C" fn pomtvia_call(m: &mut Monitor, kind: u8, p: u8, a: u8, b: u8, c
         &mut m.names,
         &m.sets,
         &m.fields,
-        kind,
-        p,
-        a,
-        b,
-        c,
+        Call {
+            kind,
+            process: p,
+            a,
+            b,
+            c,
+        },
     )
 }
 
@@ -148,11 +151,13 @@ fn on_value(m: Monitor, kind: u8, p: u8, a: u8, b: u8, c: u8) -> Settled
         &mut names,
         &sets,
         &fields,
-        kind,
-        p,
-        a,
-        b,
-        c,
+        Call {
+            kind,
+            process: p,
+            a,
+            b,
+            c,
+        },
     );
     let monitor = Monitor {
         words,
