@@ -94,34 +94,30 @@ record-done : (m : Monitor) (bytes : List ℕ) (a : Answer) (next : Monitor) →
 unfolding stateBy wordsBy wordOn stepState answer outcome
 record-done m bytes a next h s = record { words-are = ap (λ (w : Word). w ∷ []) (h .answer s); state = h .state s; sound = h .sound s }
 
+-- what is promised of a log, by the room for its codes
+pub answered-by : {b : Bool} {m next : Monitor} {log codes : List ℕ} (h : AnswersRun b m log codes next) → AnswersLogBy b m log (h .before) (record { reply = h .reply; monitor = next }) codes
+unfolding AnswersLog
+answered-by {b} {m} {next} {log} {codes} h = subst (λ (x : Bool). AnswersLogBy x m log (h .before) (record { reply = h .reply; monitor = next }) codes) (h .room) (h .answers)
+
 run-done : (m : Monitor) (log codes : List ℕ) (next : Monitor) → AnswersRun true m log codes next → Sound m
     → Done m (map entry (recordsOf log)) (map wordFrom (take (length (recordsOf log)) codes)) next
-unfolding AnswersLog AnswersLogBy LogCodesTell runLog
+unfolding AnswersLogBy LogCodesTell runLog
 run-done m log codes next h s =
-    let w : AnswersLogBy true m log (h .before) (record { reply = h .reply; monitor = next }) codes =
-    subst (λ (b : Bool). AnswersLogBy b m log (h .before) (record { reply = h .reply; monitor = next }) codes) (h .room) (h .answers) in
-    let d = w .3 s in
+    let d = answered-by h .3 s in
     record {
       words-are = ap (map wordFrom) (d .0) ∙ log-codes-tell m log ∙ records-words (view m) (recordsOf log);
       state = d .1 ∙ records-state (view m) (recordsOf log);
       sound = d .2;
     }
 
-short-same : (m : Monitor) (log codes : List ℕ) (next : Monitor) → AnswersRun false m log codes next → next ≡ m
-unfolding AnswersLog AnswersLogBy
-short-same m log codes next h =
-    let w : AnswersLogBy false m log (h .before) (record { reply = h .reply; monitor = next }) codes =
-    subst (λ (b : Bool). AnswersLogBy b m log (h .before) (record { reply = h .reply; monitor = next }) codes) (h .room) (h .answers) in
-    w .1
-
 pub operation-done : (o : Operation) (m : Monitor) (a : Answer) (codes : List ℕ) (next : Monitor) → AnswersOperation o m a codes next → Sound m → Done m (stepsOf o) (toldBy o (wordOf a) codes) next
-unfolding AnswersOperation stepsOf stepOf toldBy toldTo CallIsRecord stateBy wordsBy wordOn stepState
+unfolding AnswersOperation AnswersLogBy stepsOf stepOf toldBy toldTo CallIsRecord stateBy wordsBy wordOn stepState
 operation-done (event (given bytes)) m a codes next h s = record-done m bytes a next h s
 operation-done (event (called kind p d e f)) m a codes next h s =
     record-done m (callRecord kind p d e f) a next (call-is-record m kind p d e f (record { answer = a; monitor = next }) .0 h) s
 operation-done (event moves) m a codes next h s = record { words-are = refl; state = ap view h; sound = subst Sound (sym h) s }
 operation-done (run log) m a codes next h s = run-done m log codes next h s
-operation-done (short log some) m a codes next h s = let e : next ≡ m = short-same m log codes next h in record { words-are = refl; state = ap view e; sound = subst Sound (sym e) s }
+operation-done (short log some) m a codes next h s = let e : next ≡ m = answered-by h .1 in record { words-are = refl; state = ap view e; sound = subst Sound (sym e) s }
 
 -- ---- all operations, from any sound monitor, told the words w and the codes of logs
 abbrev pub AllDone : List Operation → (ℕ → Monitor) → (ℕ → Word) → (ℕ → List ℕ) → Type 0

@@ -7,13 +7,14 @@ use mathlib.Core.Bool.{Bool, true, false}
 use mathlib.Core.List.{List, map}
 use lib.ListN.{length, take}
 use Rattle.flow.specs.Records.{recordsOf}
-use Rattle.flow.specs.Verdicts.{Answer as Word, outcome}
-use Rattle.flow.specs.Queries.{Reply as QueryWord, refuse, result}
+use Rattle.flow.specs.Verdicts.{outcome}
+use Rattle.flow.specs.Queries.{Reply as QueryWord, refuse, result, itemsQuery}
 use Rattle.tracker.specs.Replies.{replyOf}
 use Rattle.decision.specs.declared.Monitor.{Monitor}
 use Rattle.decision.specs.declared.Answer.{Answer}
 use Rattle.decision.specs.declared.Answer.the-variants.{Refused, Loaded, Allow, Inhibit, Modify}
 use Rattle.decision.specs.declared.Answered.{Answered}
+use Rattle.decision.specs.View.{view}
 use Rattle.decision.specs.Answers.{wordOf, Sound, AnswersRecord, AnswersCall}
 use Rattle.decision.specs.Logs.{codeOf, wordFrom, inBytes, CodesTell, roomFor, AnswersLogBy, AnswersLog}
 use Rattle.decision.specs.TwoRuns.{AnswersWithout}
@@ -23,9 +24,10 @@ use Rattle.decision.proofs.CodeLaws.{codes-tell}
 use Rattle.decision.proofs.HookLaws.{call-is-record}
 use Rattle.decision.proofs.Telling.{answers-in-bytes}
 use Rattle.decision.proofs.LogTelling.{log-codes-tell}
-use Rattle.decision.proofs.Operations.{Done, operation-done, AllDone, demand3-of-done}
+use Rattle.decision.proofs.Operations.{Done, answered-by, operation-done, AllDone, demand3-of-done}
 use Rattle.decision.proofs.OperationChains.{operation-chain-exists}
 use Rattle.hook.specs.Codes.{Coded, Given, AnswersLogGiven}
+use Rattle.hook.proofs.CodeLaws.{given-by}
 use Rattle.hook.specs.Kernels.{CodesTellAnswers, RunGiven, OperationGiven, KernelChain, KernelChainExists, GivenWithout, Demand3OfKernel}
 
 -- ---- the answer that a promise hides
@@ -42,31 +44,33 @@ call-hidden : (m m′ : Monitor) (kind p a b d n : ℕ) (c : Coded (AnswersCall 
 unfolding AnswersInBytes
 call-hidden m m′ kind p a b d n c z = hidden (AnswersCall m kind p a b d) n m′ (λ r h. answers-in-bytes .1 m kind p a b d r h z) c
 
--- ---- a log returns 0 exactly where there is room for its codes, and else 13
-module _ (m : Monitor) (log codes : List ℕ) (count n : ℕ) (m′ : Monitor) (codes′ : List ℕ) (count′ : ℕ) (g : AnswersLogGiven m log codes count n m′ codes′ count′) where
-  abbrev By : Bool → Type 0
-  By b = AnswersLogBy b m log codes (record { reply = g .reply; monitor = m′ }) codes′
-
-  by : (b : Bool) → roomFor log codes ≡ b → By b
+-- ---- a log returns 0 where there is room for its codes, and else 13
+module _ {m m′ : Monitor} {log codes codes′ : List ℕ} {count n count′ : ℕ} (g : AnswersLogGiven m log codes count n m′ codes′ count′) where
+  by : (b : Bool) → roomFor log codes ≡ b → AnswersLogBy b m log codes (record { reply = g .reply; monitor = m′ }) codes′
   unfolding AnswersLog
-  by b e = subst By e (g .promised)
+  by b e = subst (λ (x : Bool). AnswersLogBy x m log codes (record { reply = g .reply; monitor = m′ }) codes′) e (g .promised)
 
-  returned : (w : QueryWord) → replyOf (g .reply) ≡ w → Given w count n count′
-  returned w e = subst (λ (v : QueryWord). Given v count n count′) e (g .given)
-
-  roomy : n ≡ 0 → (b : Bool) → roomFor log codes ≡ b → b ≡ true
+  given-true : roomFor log codes ≡ true → (n ≡ 0) × (count′ ≡ length (recordsOf log))
   unfolding AnswersLogBy Given
-  roomy z true e = refl
-  roomy z false e = absurd (let h : n ≡ 13 = returned (refuse 13) (by false e .0) .0 in let y : ⊥ = omega arith in y)
+  given-true e = given-by (replyOf (g .reply)) (result (length (recordsOf log))) (by true e .0) count n count′ (g .given)
 
-  cramped : n ≡ 13 → (b : Bool) → roomFor log codes ≡ b → b ≡ false
+  given-false : roomFor log codes ≡ false → n ≡ 13
   unfolding AnswersLogBy Given
-  cramped z true e = absurd (let h : n ≡ 0 = returned (result (length (recordsOf log))) (by true e .0) .0 in let y : ⊥ = omega arith in y)
-  cramped z false e = refl
+  given-false e = given-by (replyOf (g .reply)) (refuse 13) (by false e .0) count n count′ (g .given) .0
 
-  counted : n ≡ 0 → count′ ≡ length (recordsOf log)
-  unfolding AnswersLogBy Given
-  counted z = returned (result (length (recordsOf log))) (by true (roomy z (roomFor log codes) refl) .0) .1
+  room : n ≡ 0 → roomFor log codes ≡ true
+  room z = go (roomFor log codes) refl
+    where
+      go : (b : Bool) → roomFor log codes ≡ b → b ≡ true
+      go true e = refl
+      go false e = absurd (let h : n ≡ 13 = given-false e in let y : ⊥ = omega arith in y)
+
+  no-room : n ≡ 13 → roomFor log codes ≡ false
+  no-room z = go (roomFor log codes) refl
+    where
+      go : (b : Bool) → roomFor log codes ≡ b → b ≡ false
+      go true e = absurd (let h : n ≡ 0 = given-true e .0 in let y : ⊥ = omega arith in y)
+      go false e = refl
 
 pub codes-tell-answers : CodesTellAnswers
 unfolding CodesTellAnswers CallIsRecord outcome AnswersLogBy LogCodesTell
@@ -75,14 +79,14 @@ codes-tell-answers = (
   λ m m′ kind p a b d n c z. let r : AnswersRecord m (callRecord kind p a b d) (record { answer = c .answer; monitor = m′ }) = call-is-record m kind p a b d (record { answer = c .answer; monitor = m′ }) .0 (c .promised) in
       record { code = c .code ∙ ap codeOf (r .answer z); word = call-hidden m m′ kind p a b d n c z ∙ r .answer z },
   λ m m′ log codes codes′ count count′ g z.
-      let room : roomFor log codes ≡ true = roomy m log codes count 0 m′ codes′ count′ g refl (roomFor log codes) refl in
-      let front = ap (λ (k : ℕ). take k codes′) (counted m log codes count 0 m′ codes′ count′ g refl) ∙ by m log codes count 0 m′ codes′ count′ g true room .3 z .0 in
+      let e : roomFor log codes ≡ true = room g refl in
+      let front = ap (λ (k : ℕ). take k codes′) (given-true g e .1) ∙ by g true e .3 z .0 in
       record { codes = front; words = ap (map wordFrom) front ∙ log-codes-tell m log },
 )
 
 -- ---- each operation is done as the definitions have it
-run-answers : (m : Monitor) (log : List ℕ) (n : ℕ) (codes : List ℕ) (next : Monitor) (b : Bool) (g : RunGiven m log n codes next) → roomFor log (g .before) ≡ b → AnswersRun b m log codes next
-run-answers m log n codes next b g e = record { before = g .before; reply = g .answers .reply; room = e; answers = g .answers .promised }
+run-answers : {m next : Monitor} {log codes : List ℕ} {n : ℕ} (b : Bool) (g : RunGiven m log n codes next) → roomFor log (g .before) ≡ b → AnswersRun b m log codes next
+run-answers b g e = record { before = g .before; reply = g .answers .reply; room = e; answers = g .answers .promised }
 
 kernel-done : (o : Operation) (m : Monitor) (n : ℕ) (codes : List ℕ) (next : Monitor) → OperationGiven o m n codes next → Sound m → Done m (stepsOf o) (toldBy o (wordFrom n) codes) next
 unfolding OperationGiven AnswersOperation toldBy toldTo
@@ -90,19 +94,15 @@ kernel-done (event (given bytes)) m n codes next g s = rw (record-hidden m next 
 kernel-done (event (called kind p d e f)) m n codes next g s =
     rw (call-hidden m next kind p d e f n g s) (operation-done (event (called kind p d e f)) m (g .answer) codes next (g .promised) s)
 kernel-done (event moves) m n codes next g s = operation-done (event moves) m Allow codes next g s
-kernel-done (run log) m n codes next g s =
-    let r : RunGiven m log n codes next = g .1 in
-    operation-done (run log) m Allow codes next (run-answers m log n codes next true r (roomy m log (r .before) (r .count) n next codes (r .counted) (r .answers) (g .0) (roomFor log (r .before)) refl)) s
-kernel-done (short log some) m n codes next g s =
-    let r : RunGiven m log n codes next = g .1 in
-    operation-done (short log some) m Allow codes next (run-answers m log n codes next false r (cramped m log (r .before) (r .count) n next codes (r .counted) (r .answers) (g .0) (roomFor log (r .before)) refl)) s
+kernel-done (run log) m n codes next g s = operation-done (run log) m Allow codes next (run-answers true (g .1) (room (g .1 .answers) (g .0))) s
+kernel-done (short log some) m n codes next g s = operation-done (short log some) m Allow codes next (run-answers false (g .1) (no-room (g .1 .answers) (g .0))) s
 
 chain-done : (os : List Operation) (x : ℕ → Monitor) (a : ℕ → ℕ) (codes : ℕ → List ℕ) → KernelChain os x a codes → AllDone os x (λ n. wordFrom (a n)) codes
 chain-done os x a codes c n s = kernel-done (operationAt os n) (x n) (a n) (codes n) (x (suc n)) (c .answers n) s
 
 without : (chosen : ℕ → Bool) (m : Monitor) (c : ℕ) → GivenWithout chosen m c → AnswersWithout chosen m c
 unfolding GivenWithout AnswersWithout replyOf Given
-without chosen m c h w e = h 0 w (subst (λ (q : QueryWord). Given q 0 0 w) e (refl, refl))
+without chosen m c h w e = h 0 w (given-by (result w) (itemsQuery (view m) c) e 0 0 w (refl, refl))
 
 pub demand3-of-kernel : Demand3OfKernel
 unfolding Demand3OfKernel
@@ -133,31 +133,16 @@ number-lt (event e) a h = code-lt a h
 number-lt (run log) a h = omega arith
 number-lt (short log some) a h = omega arith
 
+run-given : {b : Bool} {m next : Monitor} {log codes : List ℕ} (n counted : ℕ) (w : QueryWord) (h : AnswersRun b m log codes next) → replyOf (h .reply) ≡ w → Given w 0 n counted → RunGiven m log n codes next
+run-given n counted w h e g = record { before = h .before; count = 0; counted = counted; answers = record { reply = h .reply; given = given-by w (replyOf (h .reply)) (sym e) 0 n counted g; promised = h .answers } }
+
 operation-given : (o : Operation) (m : Monitor) (a : Answer) (codes : List ℕ) (next : Monitor) → AnswersOperation o m a codes next → OperationGiven o m (numberOf o a) codes next
-unfolding AnswersOperation OperationGiven numberOf AnswersLog AnswersLogBy Given
+unfolding AnswersOperation OperationGiven numberOf AnswersLogBy Given
 operation-given (event (given bytes)) m a codes next h = record { answer = a; code = refl; promised = h }
 operation-given (event (called kind p d e f)) m a codes next h = record { answer = a; code = refl; promised = h }
 operation-given (event moves) m a codes next h = h
-operation-given (run log) m a codes next h =
-    let r : replyOf (h .reply) ≡ result (length (recordsOf log)) = subst (λ (b : Bool). AnswersLogBy b m log (h .before) (record { reply = h .reply; monitor = next }) codes) (h .room) (h .answers) .0 in (
-      refl,
-      record {
-        before = h .before;
-        count = 0;
-        counted = length (recordsOf log);
-        answers = record { reply = h .reply; given = subst (λ (w : QueryWord). Given w 0 0 (length (recordsOf log))) (sym r) (refl, refl); promised = h .answers };
-      },
-    )
-operation-given (short log some) m a codes next h =
-    let r : replyOf (h .reply) ≡ refuse 13 = subst (λ (b : Bool). AnswersLogBy b m log (h .before) (record { reply = h .reply; monitor = next }) codes) (h .room) (h .answers) .0 in (
-      refl,
-      record {
-        before = h .before;
-        count = 0;
-        counted = 0;
-        answers = record { reply = h .reply; given = subst (λ (w : QueryWord). Given w 0 13 0) (sym r) (refl, refl); promised = h .answers };
-      },
-    )
+operation-given (run log) m a codes next h = (refl, run-given 0 (length (recordsOf log)) (result (length (recordsOf log))) h (answered-by h .0) (refl, refl))
+operation-given (short log some) m a codes next h = (refl, run-given 13 0 (refuse 13) h (answered-by h .0) (refl, refl))
 
 pub kernel-chain-exists : KernelChainExists
 unfolding KernelChainExists OperationChainExists

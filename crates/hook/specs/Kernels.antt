@@ -55,7 +55,7 @@ OperationGiven (event moves) m n codes next = next ≡ m
 OperationGiven (run log) m n codes next = (n ≡ 0) × RunGiven m log n codes next
 OperationGiven (short log some) m n codes next = (n ≡ 13) × RunGiven m log n codes next
 
--- x n is the monitor before operation n, and returned n what the function called for it returned
+-- x n is the monitor before operation n, returned n what the function called for it returned, and codes n the slice of codes after a log
 pub record KernelChain (os : List Operation) (x : ℕ → Monitor) (returned : ℕ → ℕ) (codes : ℕ → List ℕ) : Type 0 where
   pub made : IsFresh (x 0)
   pub answers : (n : ℕ) → OperationGiven (operationAt os n) (x n) (returned n) (codes n) (x (suc n))
