@@ -1,25 +1,26 @@
 -- The operations of a kernel, whole logs among them, are steps. One operation tells its steps the words of the definitions and leaves the state
 -- after them (`operation-done`); so the words of all operations are those of all steps (`all-told`), and between two operations the state is
--- that of the steps so far (`state-before`).
-use Prim.Native.Nat.{ℕ, zero, suc, _+_, _≤_}
+-- that of the steps so far (`state-before`). Demand 3 is said of any two monitors on which the operations are done (`demand3-of-done`).
+use Prim.Native.Nat.{ℕ, zero, suc, _+_, _≤_, _<_}
 use native.Mathlib.Omega.{arith}
 use mathlib.Core.Path.{_≡_, refl, sym, ap, ap₂, _∙_}
-use mathlib.Core.Logic.{⊎-elim}
+use mathlib.Core.Logic.{_⊎_, ⊎-elim}
 use mathlib.Core.Bool.{Bool, true}
 use mathlib.Core.List.{List, [], _∷_, _++_, map, append-assoc}
 use lib.ListN.{getD, length, take, drop, length-append}
 use lib.Seq.{take-nil, take-append-seam}
-use Rattle.flow.specs.Box.{State, fresh}
+use Rattle.flow.specs.Box.{containerCount, State, fresh}
 use Rattle.flow.specs.Records.{recordsOf}
 use Rattle.flow.specs.Verdicts.{Answer as Word, allow, answer, outcome, stateAfter, Replay, answerAll, runLog}
-use Rattle.flow.specs.Contents.{Step, entry, memory, stepState, stepAt, stateAt}
-use Rattle.flow.specs.TwoRuns.{RulesForbid}
+use Rattle.flow.specs.Contents.{Step, entry, memory, stepState, stepAt, stateAt, Machine, runAt}
+use Rattle.flow.specs.TwoRuns.{Agree, RulesForbid}
 use Rattle.decision.specs.declared.Monitor.{Monitor}
 use Rattle.decision.specs.declared.Answer.{Answer}
 use Rattle.decision.specs.View.{view}
-use Rattle.decision.specs.Answers.{wordOf, Sound, AnswersRecord}
+use Rattle.decision.specs.Answers.{wordOf, Sound, IsFresh, AnswersRecord}
 use Rattle.decision.specs.Logs.{wordFrom, AnswersLogBy, AnswersLog}
-use Rattle.decision.specs.Chains.{callRecord, CallIsRecord, given, called, moves, stepOf, Operation, event, run, stepsOf, allSteps, moment, operationAt, AnswersRun, AnswersOperation, OperationChain, toldTo, toldBy, told, OperationsAreSteps, RulesToldForbid, Demand3OfOperations}
+use Rattle.decision.specs.TwoRuns.{AnswersWithout}
+use Rattle.decision.specs.Chains.{callRecord, CallIsRecord, Event, given, called, moves, stepOf, Operation, event, run, short, stepsOf, allSteps, moment, operationAt, EventsAreSteps, AnswersRun, AnswersOperation, OperationChain, toldTo, toldBy, told, OperationsAreSteps, RulesToldForbid, Demand3OfOperations}
 use Rattle.decision.specs.Telling.{LogCodesTell}
 use Rattle.decision.proofs.TwoRuns.{by-items, by-rules, forbidden-loaded, fresh-sound}
 use Rattle.decision.proofs.HookLaws.{call-is-record}
@@ -70,7 +71,7 @@ word-at s (x ∷ xs) zero bytes e = ap (wordOn s) e
 word-at s (x ∷ xs) (suc k) bytes e = word-at (stepState s x) xs k bytes e
 
 -- ---- one operation
-record Done (m : Monitor) (steps : List Step) (words : List Word) (next : Monitor) : Type 0 where
+pub record Done (m : Monitor) (steps : List Step) (words : List Word) (next : Monitor) : Type 0 where
   pub replayed : record { answers = words; state = view next } ≡ replay (view m) steps
   pub sound : Sound next
 
@@ -82,30 +83,38 @@ record-done : (m : Monitor) (bytes : List ℕ) (a : Answer) (next : Monitor) →
 unfolding replay wordOn stepState answer outcome
 record-done m bytes a next h s = record { replayed = joined (ap (λ (w : Word). w ∷ []) (h .answer s)) (h .state s); sound = h .sound s }
 
-run-done : (m : Monitor) (log codes : List ℕ) (next : Monitor) → AnswersRun m log codes next → Sound m
+-- what is promised of a log, by the room for its codes
+pub answered-by : {b : Bool} {m next : Monitor} {log codes : List ℕ} (h : AnswersRun b m log codes next) → AnswersLogBy b m log (h .before) (record { reply = h .reply; monitor = next }) codes
+unfolding AnswersLog
+answered-by h = rw (h .room) at (h .answers)
+
+run-done : (m : Monitor) (log codes : List ℕ) (next : Monitor) → AnswersRun true m log codes next → Sound m
     → Done m (map entry (recordsOf log)) (map wordFrom (take (length (recordsOf log)) codes)) next
-unfolding AnswersLog AnswersLogBy LogCodesTell runLog
+unfolding AnswersLogBy LogCodesTell runLog
 run-done m log codes next h s =
-    let w : AnswersLogBy true m log (h .before) (record { reply = h .reply; monitor = next }) codes = rw (h .room) at (h .answers) in
-    let d = w .3 s in
+    let d = answered-by h .3 s in
     record { replayed = joined (ap (map wordFrom) (d .0) ∙ log-codes-tell m log) (d .1) ∙ records-replayed (view m) (recordsOf log); sound = d .2 }
 
-operation-done : (o : Operation) (m : Monitor) (a : Answer) (codes : List ℕ) (next : Monitor) → AnswersOperation o m a codes next → Sound m → Done m (stepsOf o) (toldBy o a codes) next
-unfolding AnswersOperation stepsOf stepOf toldBy toldTo CallIsRecord replay wordOn stepState
+pub operation-done : (o : Operation) (m : Monitor) (a : Answer) (codes : List ℕ) (next : Monitor) → AnswersOperation o m a codes next → Sound m → Done m (stepsOf o) (toldBy o (wordOf a) codes) next
+unfolding AnswersOperation AnswersLogBy stepsOf stepOf toldBy toldTo CallIsRecord replay wordOn stepState
 operation-done (event (given bytes)) m a codes next h s = record-done m bytes a next h s
 operation-done (event (called kind p d e f)) m a codes next h s = record-done m (callRecord kind p d e f) a next (call-is-record m kind p d e f _ .0 h) s
 operation-done (event moves) m a codes next h s = record { replayed = joined refl (ap view h); sound = rw h s }
 operation-done (run log) m a codes next h s = run-done m log codes next h s
+operation-done (short log some) m a codes next h s = let e : next ≡ m = answered-by h .1 in record { replayed = joined refl (ap view e); sound = rw e s }
 
--- ---- all operations, from any sound monitor
-all-told : (os : List Operation) (x : ℕ → Monitor) (a : ℕ → Answer) (codes : ℕ → List ℕ)
-    → ((n : ℕ) → AnswersOperation (operationAt os n) (x n) (a n) (codes n) (x (suc n))) → Sound (x 0) → told os a codes ≡ replay (view (x 0)) (allSteps os) .answers
+-- ---- all operations, from any sound monitor, told the words w and the codes of logs
+abbrev pub AllDone : List Operation → (ℕ → Monitor) → (ℕ → Word) → (ℕ → List ℕ) → Type 0
+AllDone os x w codes = (n : ℕ) → Sound (x n) → Done (x n) (stepsOf (operationAt os n)) (toldBy (operationAt os n) (w n) (codes n)) (x (suc n))
+
+all-told : (os : List Operation) (x : ℕ → Monitor) (w : ℕ → Word) (codes : ℕ → List ℕ) → AllDone os x w codes → Sound (x 0)
+    → told os w codes ≡ replay (view (x 0)) (allSteps os) .answers
 unfolding told allSteps replay
-all-told [] x a codes h s = refl
-all-told (o ∷ os) x a codes h s =
-    let d : Done (x 0) (stepsOf o) (toldBy o (a 0) (codes 0)) (x 1) = operation-done o (x 0) (a 0) (codes 0) (x 1) (h 0) s in
-    let rest = all-told os (λ n. x (suc n)) (λ n. a (suc n)) (λ n. codes (suc n)) (λ n. h (suc n)) (d .sound) in
-    rw (replay-append (view (x 0)) (stepsOf o) (allSteps os), stateBy, ← (d .replayed)) (ap (λ (ws : List Word). toldBy o (a 0) (codes 0) ++ ws) rest)
+all-told [] x w codes h s = refl
+all-told (o ∷ os) x w codes h s =
+    let d : Done (x 0) (stepsOf o) (toldBy o (w 0) (codes 0)) (x 1) = h 0 s in
+    let rest = all-told os (λ n. x (suc n)) (λ n. w (suc n)) (λ n. codes (suc n)) (λ n. h (suc n)) (d .sound) in
+    rw (replay-append (view (x 0)) (stepsOf o) (allSteps os), stateBy, ← (d .replayed)) (ap (λ (ws : List Word). toldBy o (w 0) (codes 0) ++ ws) rest)
 
 -- ---- the moments at which operations start
 split : (os : List Operation) (n : ℕ) → allSteps os ≡ allSteps (take n os) ++ allSteps (drop n os)
@@ -134,36 +143,70 @@ module _ (os : List Operation) where
   pub next-moment : (n : ℕ) → stateAt (allSteps os) (moment os (suc n)) ≡ stateBy (stateAt (allSteps os) (moment os n)) (stepsOf (operationAt os n))
   next-moment n = rw (state-moment n) (state-moment (suc n) ∙ take-more fresh os n)
 
--- ---- a chain of operations
-module _ (os : List Operation) (x : ℕ → Monitor) (a : ℕ → Answer) (codes : ℕ → List ℕ) (c : OperationChain os x a codes) where
+-- ---- a fresh monitor on which all operations are done
+module _ (os : List Operation) (x : ℕ → Monitor) (w : ℕ → Word) (codes : ℕ → List ℕ) (made : IsFresh (x 0)) (done : AllDone os x w codes) where
   state-before : (n : ℕ) → Sound (x n) × (view (x n) ≡ stateAt (allSteps os) (moment os n))
   unfolding moment allSteps stateAt
-  state-before zero = (fresh-sound (x 0) (c .made), c .made)
+  state-before zero = (fresh-sound (x 0) made, made)
   state-before (suc n) =
       let h = state-before n in
-      let d = operation-done (operationAt os n) (x n) (a n) (codes n) (x (suc n)) (c .answers n) (h .0) in
+      let d = done n (h .0) in
       (d .sound, ap (λ (r : Replay). r .state) (d .replayed) ∙ ap (λ (s : State). stateBy s (stepsOf (operationAt os n))) (h .1) ∙ sym (next-moment os n))
 
-  told-at : (place : ℕ) (bytes : List ℕ) → stepAt (allSteps os) place ≡ entry bytes → getD (told os a codes) place allow ≡ answer (stateAt (allSteps os) place) bytes
-  told-at place bytes e =
-      rw (all-told os x a codes (c .answers) (fresh-sound (x 0) (c .made)), c .made, state-at (allSteps os) place) (word-at fresh (allSteps os) place bytes e)
+  told-at : (place : ℕ) (bytes : List ℕ) → stepAt (allSteps os) place ≡ entry bytes → getD (told os w codes) place allow ≡ answer (stateAt (allSteps os) place) bytes
+  told-at place bytes e = rw (all-told os x w codes done (fresh-sound (x 0) made), made, state-at (allSteps os) place) (word-at fresh (allSteps os) place bytes e)
 
-  barred : (chosen : ℕ → Bool) (j k : ℕ) → RulesToldForbid chosen (allSteps os) (told os a codes) j k → RulesForbid chosen (stateAt (allSteps os) j) k
+  barred : (chosen : ℕ → Bool) (j k : ℕ) → RulesToldForbid chosen (allSteps os) (told os w codes) j k → RulesForbid chosen (stateAt (allSteps os) j) k
   unfolding RulesToldForbid RulesForbid
   barred chosen j k h i l m =
-      let w = h i l m in
-      forbidden-loaded (allSteps os) (w .place) j (w .earlier) (w .bytes) (w .is-record) (w .number)
-      (sym (told-at (w .place) (w .bytes) (w .is-record)) ∙ w .answered) (w .loaded) (w .is-rule) k i (w .forbidden)
+      let t = h i l m in
+      forbidden-loaded (allSteps os) (t .place) j (t .earlier) (t .bytes) (t .is-record) (t .number)
+      (sym (told-at (t .place) (t .bytes) (t .is-record)) ∙ t .answered) (t .loaded) (t .is-rule) k i (t .forbidden)
+
+-- demand 3 of two fresh monitors on which the same operations are done
+pub demand3-of-done : (W : Type 0) (m : Machine W) (chosen : ℕ → Bool) (os : List Operation) (in₁ in₂ : ℕ → W) → Agree chosen (allSteps os) in₁ in₂
+    → (x y : ℕ → Monitor) (v w : ℕ → Word) (f g : ℕ → List ℕ) → IsFresh (x 0) → AllDone os x v f → IsFresh (y 0) → AllDone os y w g
+    → (let steps = allSteps os in
+    (c : ℕ) → c < containerCount
+    → ((n : ℕ) → AnswersWithout chosen (x n) c ⊎ AnswersWithout chosen (y n) c
+    → runAt m in₁ steps (moment os n) .contents c ≡ runAt m in₂ steps (moment os n) .contents c)
+    × ((j k : ℕ) → j ≤ k → k ≤ length steps → RulesToldForbid chosen steps (told os v f) j c ⊎ RulesToldForbid chosen steps (told os w g) j c
+    → runAt m in₁ steps k .contents c ≡ runAt m in₂ steps k .contents c))
+demand3-of-done W m chosen os in₁ in₂ agree x y v w f g mx dx my dy c hc =
+    let items = by-items m chosen (allSteps os) in₁ in₂ agree c hc in
+    let rules = by-rules m chosen (allSteps os) in₁ in₂ agree c hc in (
+      λ n. let at = items (moment os n) (moment-le os n) in ⊎-elim (at (x n) (state-before os x v f mx dx n .1)) (at (y n) (state-before os y w g my dy n .1)),
+      λ j k lj lk. ⊎-elim (λ h. rules j k lj lk (barred os x v f mx dx chosen j c h)) (λ h. rules j k lj lk (barred os y w g my dy chosen j c h)),
+    )
+
+-- ---- a chain of operations
+chain-done : (os : List Operation) (x : ℕ → Monitor) (a : ℕ → Answer) (codes : ℕ → List ℕ) → OperationChain os x a codes → AllDone os x (λ n. wordOf (a n)) codes
+chain-done os x a codes c n s = operation-done (operationAt os n) (x n) (a n) (codes n) (x (suc n)) (c .answers n) s
 
 pub operations-are-steps : OperationsAreSteps
 unfolding OperationsAreSteps
-operations-are-steps os x a codes c = (state-before os x a codes c, told-at os x a codes c)
+operations-are-steps os x a codes c =
+    let w : ℕ → Word = λ n. wordOf (a n) in
+    let d : AllDone os x w codes = chain-done os x a codes c in
+    (state-before os x w codes (c .made) d, told-at os x w codes (c .made) d)
 
 pub demand3-of-operations : Demand3OfOperations
 unfolding Demand3OfOperations
-demand3-of-operations W m chosen os in₁ in₂ agree x y a b f g cx cy c hc =
-    let items = by-items m chosen (allSteps os) in₁ in₂ agree c hc in
-    let rules = by-rules m chosen (allSteps os) in₁ in₂ agree c hc in (
-      λ n. let at = items (moment os n) (moment-le os n) in ⊎-elim (at (x n) (state-before os x a f cx n .1)) (at (y n) (state-before os y b g cy n .1)),
-      λ j k lj lk. ⊎-elim (λ h. rules j k lj lk (barred os x a f cx chosen j c h)) (λ h. rules j k lj lk (barred os y b g cy chosen j c h)),
-    )
+demand3-of-operations W m chosen os in₁ in₂ agree x y a b f g cx cy =
+    demand3-of-done W m chosen os in₁ in₂ agree x y (λ n. wordOf (a n)) (λ n. wordOf (b n)) f g (cx .made) (chain-done os x a f cx) (cy .made) (chain-done os y b g cy)
+
+-- ---- events alone
+event-steps : (events : List Event) → allSteps (map event events) ≡ map stepOf events
+unfolding allSteps stepsOf
+event-steps [] = refl
+event-steps (e ∷ events) = ap (λ (xs : List Step). stepOf e ∷ xs) (event-steps events)
+
+event-moment : (events : List Event) (n : ℕ) → n ≤ length events → moment (map event events) n ≡ n
+unfolding moment allSteps stepsOf
+event-moment events zero l = refl
+event-moment [] (suc n) l = absurd (let y : ⊥ = omega arith in y)
+event-moment (e ∷ events) (suc n) l = ap suc (event-moment events n (omega arith))
+
+pub events-are-steps : EventsAreSteps
+unfolding EventsAreSteps
+events-are-steps events = (event-steps events, event-moment events)
