@@ -13,6 +13,5 @@ pub mod OutcomeLaws
 pub mod Telling
 pub mod Bounds
 pub mod Holding
-pub mod LogTelling
 pub mod Operations
 pub mod OperationChains

@@ -29,8 +29,7 @@ use Rattle.decision.specs.Chains.{callRecord, CallIsRecord, given, calle
 use Rattle.decision.proofs.HookLaws.{call-is-record}
 use Rattle.decision.proofs.Stored.{held}
 use Rattle.decision.proofs.ListLaws.{Below}
-use Rattle.decision.proofs.Telling.{kept-ruled}
-use Rattle.decision.proofs.LogTelling.{codes-below}
+use Rattle.decision.proofs.Telling.{kept-ruled, codes-below}
 use Rattle.decision.proofs.Holding.{held-holdable, record-answered, answerTo, answer-bytes, views}
 use Rattle.decision.proofs.Operations.{replay, stateBy, records-replayed, next-moment}
 

@@ -24,7 +24,7 @@ use Rattle.decision.specs.Chains.{callRecord, CallIsRecord, Event, given
 use Rattle.decision.specs.Telling.{LogCodesTell}
 use Rattle.decision.proofs.TwoRuns.{by-items, by-rules, forbidden-loaded, fresh-sound}
 use Rattle.decision.proofs.HookLaws.{call-is-record}
-use Rattle.decision.proofs.LogTelling.{log-codes-tell}
+use Rattle.decision.proofs.Telling.{log-codes-tell}
 
 -- ---- the words that steps are told, and the state after them
 unfoldable pub wordOn : State → Step → Word

@@ -12,7 +12,7 @@ use Rattle.flow.specs.Queries.{Reply as QueryWord, refuse, result, itemsQuery}
 use Rattle.tracker.specs.Replies.{replyOf}
 use Rattle.decision.specs.declared.Monitor.{Monitor}
 use Rattle.decision.specs.declared.Answer.{Answer}
-use Rattle.decision.specs.declared.Answer.the-variants.{Refused, Loaded, Allow, Inhibit, Modify}
+use Rattle.decision.specs.declared.Answer.the-variants.{Allow}
 use Rattle.decision.specs.declared.Answered.{Answered}
 use Rattle.decision.specs.View.{view}
 use Rattle.decision.specs.Answers.{wordOf, Sound, AnswersRecord, AnswersCall}
@@ -20,10 +20,9 @@ use Rattle.decision.specs.Logs.{codeOf, wordFrom, inBytes, CodesTell, roomFor, 
 use Rattle.decision.specs.TwoRuns.{AnswersWithout}
 use Rattle.decision.specs.Chains.{CallIsRecord, callRecord, given, called, moves, Operation, event, run, short, stepsOf, operationAt, AnswersRun, AnswersOperation, OperationsOver, OperationChainExists, toldTo, toldBy}
 use Rattle.decision.specs.Telling.{AnswersInBytes, LogCodesTell}
-use Rattle.decision.proofs.CodeLaws.{codes-tell}
+use Rattle.decision.proofs.CodeLaws.{codes-tell, code-lt}
 use Rattle.decision.proofs.HookLaws.{call-is-record}
-use Rattle.decision.proofs.Telling.{answers-in-bytes}
-use Rattle.decision.proofs.LogTelling.{log-codes-tell}
+use Rattle.decision.proofs.Telling.{answers-in-bytes, log-codes-tell}
 use Rattle.decision.proofs.Operations.{Done, answered-by, operation-done, AllDone, demand3-of-done}
 use Rattle.decision.proofs.OperationChains.{operation-chain-exists}
 use Rattle.hook.specs.Codes.{Coded, Given, AnswersLogGiven}
@@ -113,14 +112,6 @@ demand3-of-kernel W m chosen os in₁ in₂ agree x y a b f g cx cy c hc =
     )
 
 -- ---- and there is a chain
-code-lt : (a : Answer) → inBytes a → codeOf (wordOf a) < 2 ^ 32
-unfolding inBytes codeOf wordOf
-code-lt (Refused n) h = omega arith
-code-lt (Loaded n) h = omega arith
-code-lt Allow h = omega arith
-code-lt (Inhibit n) h = omega arith
-code-lt (Modify n c) h = omega arith
-
 -- what the function for an operation returns where `Monitor` answers a
 unfoldable numberOf : Operation → Answer → ℕ
 numberOf (event e) a = codeOf (wordOf a)

@@ -1,20 +1,19 @@
--- Where a state holds exactly what a plan keeps and gives, it is planned; so it is where the plan was made.
+-- What a container gets by a plan, and the items after it: what is kept and what is given.
 use Prim.Native.Nat.{ℕ, _^_, _<_}
 use native.Mathlib.Omega.{arith}
-use mathlib.Core.Path.{_≡_, refl, sym, ap, ap₂, _∙_}
+use mathlib.Core.Path.{_≡_, sym, ap, ap₂, _∙_}
 use mathlib.Core.Bool.{Bool, true, false, not, _&&_, _||_, and-true, and-false, or-assoc}
 use mathlib.Core.List.{List}
 use lib.ListN.{getD}
 use Rattle.sets.specs.Sets.{has}
 use Rattle.sets.proofs.Members.{union-has, union-lt, none-has}
-use Rattle.flow.specs.Box.{Tables, State, itemsOf, holds}
 use Rattle.flow.specs.Links.{given}
-use Rattle.flow.proofs.Bools.{or-l, or-r, choice}
+use Rattle.flow.proofs.Bools.{choice}
 use Rattle.flow.proofs.TableLaws.{table-at}
 use Rattle.flow.proofs.Moves.{given-has}
 use Rattle.store.specs.declared.Plan.{Plan}
 use Rattle.store.specs.Maps.{cleared, itemsBy}
-use Rattle.rules.specs.Judging.{share, gets, keeps, Planned}
+use Rattle.rules.specs.Judging.{share, gets, keeps}
 
 -- ---- what a container gets
 -- a set, or else the empty set
@@ -35,19 +34,6 @@ module _ (plan : Plan) where
   unfolding gets
   gets-lt h k i = union-lt _ _ (share-lt _ i _ h) (share-lt _ i _ k)
 
-module _ (s t : State) (plan : Plan) where
-  pub planned-exactly : t .rules ≡ s .rules → plan .to < 2 ^ 64 → plan .to2 < 2 ^ 64
-      → ((v i : ℕ) → v < 64 → holds t v i ≡ (keeps (s .items) plan v i || has (gets plan i) v)) → Planned s t plan
-  planned-exactly e h k f =
-      record {
-        rules = e;
-        small = h;
-        small2 = k;
-        source = λ v i l q. sym (f v i l) ∙ q;
-        given = λ v i l q. f v i l ∙ or-r (keeps (s .items) plan v i) _ q;
-        kept = λ v i l m q. f v i l ∙ or-l (keeps (s .items) plan v i) _ q;
-      }
-
 -- ---- the items after a plan
 cleared-has : (l : List ℕ) (x v i : ℕ) → v < 64 → has (getD (cleared l x) v 0) i ≡ (has (getD l v 0) i && not (has x v))
 unfolding cleared
@@ -64,8 +50,3 @@ made-has l plan v i h =
     given-has (given kept (plan .to) (plan .given)) (plan .to2) (plan .given2) v i h
     ∙ rw (given-has kept (plan .to) (plan .given) v i h, cleared-has l (plan .empty) v i h, gets-has plan i v)
     (or-assoc (has (getD l v 0) i && not (has (plan .empty) v)) _ _)
-
-pub planned-made : (s : State) (tables : Tables) (plan : Plan) → plan .to < 2 ^ 64 → plan .to2 < 2 ^ 64
-    → Planned s (record { tables = tables; items = itemsBy (s .items) plan; rules = s .rules }) plan
-unfolding holds itemsOf
-planned-made s tables plan h k = planned-exactly s _ plan refl h k (λ v i l. made-has (s .items) plan v i l)
