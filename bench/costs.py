@@ -3,7 +3,8 @@
 from typing import Dict, List, NamedTuple, Tuple
 
 from bench.counting import row, rule_of, say
-from bench.logcases import CONFINING, DIVERTED, INHIBITED, PLACES, RULE_TABLES, SEEDS, LogCase
+from bench.logcases import CONFINING, DIVERTED, INHIBITED, PARTED, PARTED_DIVERTED
+from bench.logcases import PARTED_INHIBITED, PLACES, RULE_TABLES, SEEDS, LogCase
 from bench.logcases import call_cases, growing_log, other_cases, write_case
 from bench.programs import Pair, both, costs, log_cost
 from bench.states import D_FIRST, GIVER, KIND_NAMES, N_FIRST, link_of_chain
@@ -15,7 +16,8 @@ RULE_COUNTS = (0, 32)
 PAIR = ("Program", "Baseline", "Ratio")
 MIX = "mixed"  # the mix of the log that grows
 LOG_RULES = 8
-STOPPED = {INHIBITED: 1, DIVERTED: 2}  # how often each is worked out
+# Writes that are judged by 32 rules, and how often each is worked out.
+JUDGED = {INHIBITED: 1, DIVERTED: 2, PARTED: 1, PARTED_INHIBITED: 1, PARTED_DIVERTED: 2}
 
 
 class Costs(NamedTuple):
@@ -147,8 +149,8 @@ def less(one: Pair, other: Pair, times: int = 1) -> Pair:
 
 
 def beside_writes(found: Costs, state: str, name: str) -> Pair:
-    """A stopped write beside the same writes with no rules: one, or two if it is diverted."""
-    return less(found.others[state, name], found.writes[state], STOPPED[name])
+    """A judged write beside the same writes with no rules: one, or two if it is diverted."""
+    return less(found.others[state, name], found.writes[state], JUDGED[name])
 
 
 def judging_of(found: Costs, state: str, table: str) -> Pair:
@@ -171,7 +173,7 @@ def other_table(found: Costs) -> List[str]:
     lines = [row("Record", "Answer", "Rules before it", *heads), rule_of("ll" + 7 * "r")]
     for name, case in other_cases(PLACES["small"][0]).items():
         cells = [cell for state in STATES for cell in found.others[state, name].cells]
-        answer = case.answer if name != DIVERTED else "modify"
+        answer = "modify" if case.answer.startswith("modify") else case.answer
         lines.append(row(name, answer, len(case.rules), *cells))
     return lines
 
@@ -217,6 +219,6 @@ def judgings(found: Costs) -> Dict[str, Pair]:
             judged[f"{name}, {state} state"] = less(ruled, plain)
         for table in RULE_TABLES:
             judged[f"write, {state} state, {table}"] = judging_of(found, state, table)
-        for name in STOPPED:
+        for name in JUDGED:
             judged[f"{name}, {state} state"] = beside_writes(found, state, name)
     return judged

@@ -34,6 +34,8 @@ RULE_TABLES = {
 }
 # One fewer, none of them about item 0.
 ALL_BUT_ONE = CONFINING[1:]
+# A full table of rules of tag 12 hex that all speak of item 0.
+PARTING = [separate(0, 1 + number) for number in RULE_NUMBERS]
 
 CASES: Dict[str, Dict[int, List[Case]]] = {
     state: {kind: [made[kind] for made in tables if kind in made] for kind in KIND_NAMES}
@@ -112,17 +114,27 @@ PLACES: Dict[str, List[Place]] = {
 }
 INHIBITED = f"write, inhibited by rule {LAST_RULE}"
 DIVERTED = f"write, diverted by rule {LAST_RULE}"
+PARTED = "write, 32 rules of tag 12 hex on the item given"
+PARTED_INHIBITED = f"{INHIBITED} behind 31 of tag 12 hex on the item given"
+PARTED_DIVERTED = f"{DIVERTED} behind 31 of tag 12 hex on the item given"
+
+
+def stopped_case(rules: List[Rule], place: Place, diverts: bool) -> LogCase:
+    """The write, with a last rule against it."""
+    divert = (DIVERT_ACTION, place.substitute) if diverts else ()
+    stopping = forbid(0, [place.written], *divert)
+    answer = f"modify {LAST_RULE} {place.substitute}" if diverts else f"inhibit {LAST_RULE}"
+    return LogCase([*rules, stopping], place.before, encode(place.write), answer)
 
 
 def stopped_cases(place: Place) -> Dict[str, LogCase]:
-    """The write, with the last of 32 rules against it."""
-    inhibiting = forbid(0, [place.written])
-    diverting = forbid(0, [place.written], DIVERT_ACTION, place.substitute)
-    write = encode(place.write)
-    diverted = f"modify {LAST_RULE} {place.substitute}"
+    """The write, with the last of 32 rules against it, or with rules that all speak of its item."""
     return {
-        INHIBITED: LogCase([*ALL_BUT_ONE, inhibiting], place.before, write, f"inhibit {LAST_RULE}"),
-        DIVERTED: LogCase([*ALL_BUT_ONE, diverting], place.before, write, diverted),
+        INHIBITED: stopped_case(ALL_BUT_ONE, place, False),
+        DIVERTED: stopped_case(ALL_BUT_ONE, place, True),
+        PARTED: LogCase(PARTING, place.before, encode(place.write), "allow"),
+        PARTED_INHIBITED: stopped_case(PARTING[:-1], place, False),
+        PARTED_DIVERTED: stopped_case(PARTING[:-1], place, True),
     }
 
 

@@ -13,7 +13,7 @@ class Copying(Walk):
 
     def __init__(self, hook, callee, state, settled, args, result, stored, number):
         """`settled`: the result's crate and path; `stored`, `number`: places of its fields."""
-        super().__init__(hook, callee, state, args, 1)
+        super().__init__(hook, callee, state, args)
         if self.refs or self.shared:
             raise Refused("a function of this form takes a `&mut` of the struct and numbers")
         self.declared(settled, "S")

@@ -1,6 +1,17 @@
-"""The walk of a function that lends fields of a struct where they lie."""
+"""The walk of a function that lends fields of a struct where they lie, and what such walks share of the struct."""
 
-from tools.walks.script import MARK, Steps, at, consed, dashed, nest, product, spelled, starred
+from tools.walks.script import (
+    MARK,
+    Steps,
+    Text,
+    at,
+    consed,
+    dashed,
+    nest,
+    product,
+    spelled,
+    starred,
+)
 from tools.walks.walk import LOGIC, STEP, Walk
 
 
@@ -11,19 +22,52 @@ class Field:
         self.name, self.type, self.mode = name, type_, mode
         self.dot, self.place = f"h .{spelled(name)}", f"(o + {offset})"
         dash = dashed(name)
-        self.row, self.ref, self.own = f"R-{dash}", f"ref-{dash}", f"own-{dash}"
-        self.nu, self.delta = f"ν-{dash}", f"δ-{dash}"
+        self.row, self.nu, self.delta = f"R-{dash}", f"ν-{dash}", f"δ-{dash}"
+        self.ref = f"refAt b {self.place} ({self.dot}) {self.delta}"
         self.lft = f"({self.nu} ∷ [])"
         self.former = "MutRef" if mode == "mut" else "ShrRef"
+
+
+class Built:
+    """A struct of numbers that is built of parameters and passed by value."""
+
+    given, ref = False, 0
+
+    def __init__(self, name, struct, fields, args, letter):
+        dash, value = dashed(name), "vnil"
+        self.name, self.struct, self.args, self.letter = dash, struct, args, letter
+        self.x, self.mach, self.made = f"x-{dash}", f"mach-{dash}", f"made-{dash}"
+        self.passed, self.value = self.x, f"{self.mach} ∷ []"
+        self.fields = "; ".join(f"{spelled(f)} = {a.x}" for f, a in zip(fields, args))
+        for a in reversed(args):
+            value = f"(vcons (vint {a.type.width} {a.x}) {value})"
+        self.machine = f"vstruct {value}"
+        self.owed = nest([f"(refl, fits-{a.name})" for a in args])
+        self.typed = f"(tt, {nest([f'record {{ fits = fits-{a.name} }}' for a in args])})"
+        self.makes = f"(LL.makes {letter}.the-type {letter}′.the-plain 𝓤 H A)"
+
+    def row(self, _):
+        return f"{self.letter}.the-row"
 
 
 class Lending(Walk):
     """fn f(m: &mut S, ..) -> u32 { callee(&mut m.x, &m.y, .., ..) }"""
 
-    def __init__(self, hook, callee, state, fields, args, result):
+    def __init__(self, hook, callee, state, fields, args, built, result):
+        """`built`: for each struct passed by value its place among the parameters that follow,
+        its name there, its crate and path, and its fields, which take the next of `args`."""
         self.fields, self.result = fields, result
         self.lent = [f for f in fields if f.mode]
-        super().__init__(hook, callee, state, args, len(self.lent))
+        super().__init__(hook, callee, state, args)
+        self.operands = list(self.args)
+        for k, (place, name, struct, names) in enumerate(built):
+            taken = self.operands[place : place + len(names)]
+            letter = "PQR"[k]
+            self.operands[place : place + len(names)] = [Built(name, struct, names, taken, letter)]
+            self.declared(struct, letter)
+        self.built = [p for p in self.operands if isinstance(p, Built)]
+        for k, operand in enumerate(self.operands):
+            operand.called = len(self.lent) + k
         self.share = "s" if self.shared else "fullShare"
         self.kind = result.value if result else "Unit {0}"
         self.ghosts = "".join(f" {f.nu}" for f in self.lent)
@@ -50,54 +94,36 @@ class Lending(Walk):
         return f"zs{at(self.lent.index(field))}" if field.mode == "mut" else field.dot
 
     def definitions(self):
-        self.put("-- the fields' types, and the fields as members")
-        laws = []
-        for f in self.fields:
-            self.define(f.row, "RattleType", f.type.row.strip("()"), 0)
-            law = f"uint-lawful 𝓤 H A W {f.type.width}"
-            many = f"array-lawful 𝓤 H A W {f.type.number} ({law}) {f.type.count}"
-            laws.append(many if f.type.count else law)
-        members = [f"record {{ row = {f.row}; ty = {f.type.mir} }}" for f in self.fields]
-        self.define("ms", "List Member", consed(members), 0)
-        bound = f"(W : Given 𝓤 H A) (b o : ℕ) (s : Share) (h : {self.state})"
-        self.put(f"module _ {LOGIC} {bound} where")
-        self.define("rows-lawful", "Lawfuls 𝓤 H A (rowsOf ms)", nest(laws))
-        self.define("Back", "SProp 𝓤", "PartsBack 𝓤 H A s (T.struct .name) ms b o")
-        self.define("Parts", "SProp 𝓤", "sem 𝓤 H A (partsAt s ms 0 (T.the-type .to h) b o)")
-        whole = "(sem 𝓤 H A (partAt T.the-row s h b o))"
-        self.put("-- the struct in memory is its fields in memory, and a way back at any values", 2)
-        self.define(
-            "apart",
-            f"ent 𝓤 {whole} (sep 𝓤 Parts Back)",
-            "struct-parts 𝓤 H A W s (T.struct .name) ms rows-lawful (T.the-type .to h) b o",
-            short=False,
-            unfolding="partOf",
-        )
-        some = "partAt (Struct (shapeOf (T.struct .name) ms)) s a b o"
-        back = f"wand 𝓤 (sem 𝓤 H A (partsAt s ms 0 a b o)) (sem 𝓤 H A ({some}))"
-        self.define(
-            "together",
-            f"ent 𝓤 (sep 𝓤 Parts Back) {whole}",
-            f"via 𝓤 (sep 𝓤 Parts (wand 𝓤 Parts {whole})) (monoR 𝓤 Parts (allE 𝓤"
-            f" (λ (a : Denots (rowsOf ms)). {back}) (T.the-type .to h))) (apply∗ 𝓤 Parts {whole})",
-            short=False,
-            unfolding="partOf",
-        )
+        names = [f.row for f in self.fields] + ["ms", "Back", "apart", "together"]
+        fields = self.module(self.crate, "proofs", f"{self.state}Fields")
+        self.imports.append(f"use {fields}.{{{', '.join(names)}}}")
+        lending = self.module(self.crate, "proofs", "Lending")
+        self.imports.append(f"use {lending}.{{{', '.join(self.lending_names())}}}")
         self.contract()
+
+    def lending_names(self):
+        """What the walk cites of crates/CRATE/proofs/Lending.antt, which is written by hand."""
+        names = ["refAt"]
+        for mode, name in (("mut", "Mut"), ("shr", "Shr")):
+            lent = [f for f in self.lent if f.mode == mode]
+            arrays = any(f.type.count for f in lent)
+            names += [f"Lent{name}"] * bool(lent) + [f"lend-{mode}"] * arrays
+            names += ["memberAt", "back-mut"] * (arrays and mode == "mut")
+        return names
 
     def callee_side(self):
         """What the callee is handed, what its triple binds, and what it leaves."""
-        self.put("-- the fields, each lent for a lifetime ν under a name δ", 2)
-        for k, f in enumerate(self.lent):
-            ref = f"record {{ ptr = (b, {f.place[1:-1]}); name = δ; now = {f.dot} }}"
-            self.define(f"{f.ref} δ", f"GName → RefT ({f.type.value})", ref)
-            own = f"{f.former} (named {k}) (ν ∷ []) {f.row} .own"
-            own += f" ({f.ref} δ) (vptr b {f.place} ∷ [])"
-            self.define(f"{f.own} ν δ", "ℕ → GName → Fml", own)
         kappas = nest([f"{f.nu} ∷ []" for f in self.lent] + [a.kappa for a in self.refs])
         shares = nest(["fullShare"] * len(self.lent) + [a.share for a in self.refs])
-        handed = nest([f"{f.ref} {f.delta}" for f in self.lent] + [a.passed for a in self.args])
-        values = [f"vptr b {f.place} ∷ []" for f in self.lent] + [a.value for a in self.args]
+        for p in self.built:
+            self.put("-- a struct that is passed by value, and its machine value", 2)
+            self.define(p.x, p.struct[1][-1], f"record {{ {p.fields} }}")
+            self.define(p.mach, "Val", p.machine)
+            laws = f"LL.owes {p.letter}.the-type {p.letter}′.the-laws {p.x} {p.owed}"
+            self.define(p.made, f"Is {p.row(0)} {p.x} ({p.value})", laws, short=False)
+        handed = [f.ref for f in self.lent]
+        handed = nest(handed + [p.passed for p in self.operands])
+        values = [f"vptr b {f.place} ∷ []" for f in self.lent] + [p.value for p in self.operands]
         ghost = f"(({kappas}, {shares}, tt, {handed}, {nest(values)}), tt)"
         self.put("-- what the callee's triple binds outside, and what it asks", 2)
         self.define(f"to-step{self.ghosts}", f"{self.arrows}{STEP} .Ghost", ghost)
@@ -106,9 +132,9 @@ class Lending(Walk):
         rows, lifetime = [], len(self.lent)
         for k, f in enumerate(self.lent):
             rows.append(f"{f.former} (named {k}) {f.lft} {f.row}")
-        for a in self.args:
-            rows.append(a.row(lifetime))
-            lifetime += a.ref
+        for p in self.operands:
+            rows.append(p.row(lifetime))
+            lifetime += p.ref
         owns = f"‵ (owns ({consed(rows)}) {handed} {nest(values)})"
         asks = f"((({self.tokens}) ⊛ {owns}) ∷ [])"
         self.define(
@@ -119,7 +145,7 @@ class Lending(Walk):
         )
         self.put("-- what the callee leaves, the struct after it, and what it says of them", 2)
         lasts = [f.type.value if f.mode == "mut" else "Unit {0}" for f in self.lent]
-        lasts += [a.now if a.given else "Unit {0}" for a in self.args]
+        lasts += [p.now if p.given else "Unit {0}" for p in self.operands]
         self.define("Lasts", "Type 0", product(lasts))
         record = "; ".join(f"{spelled(f.name)} = {self.last(f)}" for f in self.fields)
         self.define("after zs", f"Lasts → {self.state}", f"record {{ {record} }}")
@@ -159,18 +185,21 @@ class Lending(Walk):
         for f in self.lent:
             f.local, spot = spot, spot + 1
         for k, a in enumerate(self.args):
-            a.local = 2 + k
-            if a.given:
-                a.local = spot + a.slice
-                spot = a.local + 1
+            a.local = a.home = 2 + k
+        for p in self.operands:
+            if p.given or p in self.built:
+                p.local = spot + (p.given and p.slice)
+                spot = p.local + 1
         s = Steps(spot, ["tokens", "owns"])
         self.enter(s)
         s.note("the addresses that are passed")
         for f in self.lent:
             s.assign(f"(addr ! (from ! (hop ! {s.local(1)} (fld ! refl (stop !)))))", f.local)
-        for k, a in enumerate(self.args):
-            if a.given:
-                self.pass_on(s, a, 2 + k)
+        for p in self.operands:
+            if p.given:
+                self.pass_on(s, p, p.home)
+            elif p in self.built:
+                s.assign(f"(agg ! {s.operands([a.home for a in p.args])})", p.local, p.typed)
         self.open(s)
         for f in self.lent:
             s.add(f"lft-new ! tt (λ {f.nu}.")
@@ -178,7 +207,8 @@ class Lending(Walk):
         for k, f in enumerate(self.fields):
             self.lend(s, f)
         s.note("what the callee asks is put together, and it is called")
-        s.pack([f"own .{f.name}" for f in self.lent], "rest", "fjoin")
+        owned = self.own_operands(s) if self.built else []
+        s.pack([f"own .{f.name}" for f in self.lent] + owned, "rest", "fjoin")
         s.add("nothing ! $")
         s.push("handed")
         lfts = [f"lft .{f.name}" for f in self.lent] + [f"lft {a.x}" for a in self.refs]
@@ -187,7 +217,7 @@ class Lending(Walk):
         asked = f"raw ({STEP} .pre (to-step{self.ghosts}))"
         s.add(f"join ! $ use1 W ({asked}) (goes-step{self.ghosts}) $")
         s.become(2, "asked")
-        operands = s.operands([p.local for p in self.lent + self.args])
+        operands = s.operands([p.local for p in self.lent + self.operands])
         s.add(f"calls-at ! fm ({STEP}) known (to-step{self.ghosts}) {operands} (λ v.")
         self.hear(s)
         self.come_back(s)
@@ -196,6 +226,17 @@ class Lending(Walk):
         s.leave()
         s.keep(self.kept, f"exits {self.names}")
         return s
+
+    def own_operands(self, s):
+        """What is passed on is owned by itself, and a struct by what its numbers are."""
+        for a in self.args:
+            s.front("rest")
+            s.add("fsplit ! $")
+            s.become(1, f"own {a.x}", "rest")
+        for p in self.built:
+            s.add(f"owned ! {p.row(0)} (Is {p.row(0)}) {p.makes} {p.x} _ {p.made} $")
+            s.push(f"own {p.x}")
+        return [f"own {p.x}" for p in self.operands]
 
     def pass_on(self, s, arg, home):
         """A `&mut` is lent on: its address is taken anew."""
@@ -228,34 +269,26 @@ class Lending(Walk):
         s.add(f"use1 W ({parts} ⊛ {back}) (apart 𝓤 H A W b o {self.share} h) $ split ! $")
         s.become(1, "parts", "Back")
 
-    def listed(self, s, field, proof):
-        """As a member of the struct an array stands as `map` of nothing over its list."""
-        if field.type.count:
-            part = f"‵ (partAt {field.row} {self.share} l b {field.place})"
-            s.add(f"rewrite ! 0 (λ (l : List ℕ). {part}) {proof} refl $")
-
     def lend(self, s, f):
         s.front("parts")
         s.add("fsplit ! $")
         s.become(1, f"part .{f.name}", "parts")
         if not f.mode:
             return
-        self.listed(s, f, f"(map-id ({f.dot}))")
-        held = f"partAt {f.row} {self.share} ({f.dot}) b {f.place}"
-        rule, share = "lends-shr", f"{self.share} "
-        if f.mode == "mut":
-            held, rule, share = f"Body (mem {f.row}) b {f.place} δ", "lends-ref", ""
-        named = f"(named {self.lent.index(f)})"
-        lent = f"‵ ({f.own} {f.nu} δ) ⊛ ‵ (flent {f.lft} ({held}))"
-        law = f"{rule} 𝓤 H A W {f.row} {named} {f.lft} {share}({f.dot}) b {f.place}"
-        s.add(f"use1 W (later (some (λ (δ : GName). {lent}))) ({law}) $")
-        s.add(f"await ! tt $ pick ! (λ {f.delta}. split ! $")
+        k, value = self.lent.index(f), f"({f.dot}) b {f.place}"
+        share = f" {self.share}" if f.mode == "shr" else ""
+        item = f"{'LentMut' if f.mode == 'mut' else 'LentShr'} 𝓤 {f.row} {k} {f.nu} {value}{share}"
+        law = f"lend-{f.mode} 𝓤 H A W {f.type.number} {f.type.count} {value} {k} {f.nu}{share}"
+        if not f.type.count:
+            rule = "lends-ref" if f.mode == "mut" else "lends-shr"
+            law = f"{rule} 𝓤 H A W {f.row} (named {k}) {f.lft}{share} {value}"
+        s.add(f"use1 W ({item}) ({law}) $ await ! tt $ pick ! (λ {f.delta}. split ! $")
         s.become(1, f"own .{f.name}", f"loan .{f.name}")
 
     def hear(self, s):
         row = self.result.row if self.result else "unit"
         self.heard(s, self.tokens, self.kind, row, self.ghosts)
-        for name in [f".{f.name}" for f in self.lent] + [a.x for a in self.args]:
+        for name in [f".{f.name}" for f in self.lent] + [p.x for p in self.operands]:
             s.front("lasts")
             s.add("fsplit ! $")
             s.become(1, f"last {name}", "lasts")
@@ -275,18 +308,7 @@ class Lending(Walk):
             s.add("split ! $")
             s.become(1, f"lft {name}", "tokens")
         for f in self.lent:
-            last = f"({self.last(f)})"
-            if f.mode == "mut":
-                s.front(f"lft .{f.name}", f"loan .{f.name}", f"last .{f.name}")
-                lies = f"‵ (mem {f.row} .lies {last} b {f.place})"
-                law = f"ref-back 𝓤 H A W {f.row} {f.lft} {f.delta} {last} b {f.place}"
-                s.add(f"lft-end ! tt $ use3 W (later ({lies})) ({law}) $ await ! tt $")
-                s.become(3, f"part .{f.name}")
-            else:
-                s.front(f"lft .{f.name}", f"loan .{f.name}")
-                s.add("lft-end ! tt $ lent-back ! tt $")
-                s.become(2, f"part .{f.name}")
-            self.listed(s, f, f"(sym (map-id {last}))")
+            self.back(s, f, f"({self.last(f)})")
         s.note("the struct is put together, and the borrow is closed")
         s.add("nothing ! $")
         s.push("all")
@@ -304,3 +326,78 @@ class Lending(Walk):
             s.front("whole", "open", "obs", "auth")
             s.add("close-ref ! tt (mem T.the-row) (after zs) {b = b} {o = o} $")
             s.become(4, "obs", "bor", "lft")
+
+    def back(self, s, f, last):
+        """A field comes back at its last value, as a member of the struct."""
+        if f.mode == "shr":
+            s.front(f"lft .{f.name}", f"loan .{f.name}")
+            s.add("lft-end ! tt $ lent-back ! tt $")
+            s.become(2, f"part .{f.name}")
+            if f.type.count:
+                part = f"‵ (partAt {f.row} {self.share} l b {f.place})"
+                s.add(f"rewrite ! 0 (λ (l : List ℕ). {part}) (sym (map-id {last})) refl $")
+            return
+        s.front(f"lft .{f.name}", f"loan .{f.name}", f"last .{f.name}")
+        lies = f"mem {f.row} .lies {last} b {f.place}"
+        law = f"ref-back 𝓤 H A W {f.row} {f.lft} {f.delta} {last} b {f.place}"
+        if f.type.count:
+            array = f"{f.type.number} {f.type.count}"
+            lies = f"memberAt {array} fullShare {last} b {f.place}"
+            law = f"back-mut 𝓤 H A W {array} {last} b {f.place} {f.nu} {f.delta}"
+        s.add(f"lft-end ! tt $ use3 W (later (‵ ({lies}))) ({law}) $ await ! tt $")
+        s.become(3, f"part .{f.name}")
+
+
+class Fields(Text):
+    """The fields of a struct in memory, which all walks of a crate share that lend some of them."""
+
+    def __init__(self, crate, struct, fields):
+        super().__init__(crate)
+        home, path = struct
+        self.name = path[-1]
+        specs = self.module(home, "specs", "declared", *path)
+        self.imports += [f"use {specs}.{{{self.name}}}"]
+        self.imports += [f"use {self.module(home, 'proofs', *path)} as T"]
+        self.put("-- the fields' types, and the fields as members")
+        laws = []
+        for f in fields:
+            self.define(f"pub {f.row}", "RattleType", f.type.row.strip("()"), 0)
+            law = f"uint-lawful 𝓤 H A W {f.type.width}"
+            many = f"array-lawful 𝓤 H A W {f.type.number} ({law}) {f.type.count}"
+            laws.append(many if f.type.count else law)
+        members = [f"record {{ row = {f.row}; ty = {f.type.mir} }}" for f in fields]
+        self.define("pub ms", "List Member", consed(members), 0)
+        self.parted(laws)
+
+    def comment(self):
+        return [
+            f"The fields of `{self.name}` in memory, for the walks that lend them: {MARK}.",
+            "The struct in memory is its fields in memory, and a way back at any values. Assumes"
+            " nothing.",
+        ]
+
+    def parted(self, laws):
+        bound = f"(W : Given 𝓤 H A) (b o : ℕ) (s : Share) (h : {self.name})"
+        self.put(f"module _ {LOGIC} {bound} where")
+        self.define("rows-lawful", "Lawfuls 𝓤 H A (rowsOf ms)", nest(laws))
+        self.define("pub Back", "SProp 𝓤", "PartsBack 𝓤 H A s (T.struct .name) ms b o")
+        parts = "sem 𝓤 H A (partsAt s ms 0 (T.the-type .to h) b o)"
+        self.define("Parts", "SProp 𝓤", parts)
+        whole = "(sem 𝓤 H A (partAt T.the-row s h b o))"
+        self.define(
+            "pub apart",
+            f"ent 𝓤 {whole} (sep 𝓤 Parts Back)",
+            "struct-parts 𝓤 H A W s (T.struct .name) ms rows-lawful (T.the-type .to h) b o",
+            short=False,
+            unfolding="partOf",
+        )
+        some = "partAt (Struct (shapeOf (T.struct .name) ms)) s a b o"
+        back = f"wand 𝓤 (sem 𝓤 H A (partsAt s ms 0 a b o)) (sem 𝓤 H A ({some}))"
+        self.define(
+            "pub together",
+            f"ent 𝓤 (sep 𝓤 Parts Back) {whole}",
+            f"via 𝓤 (sep 𝓤 Parts (wand 𝓤 Parts {whole})) (monoR 𝓤 Parts (allE 𝓤"
+            f" (λ (a : Denots (rowsOf ms)). {back}) (T.the-type .to h))) (apply∗ 𝓤 Parts {whole})",
+            short=False,
+            unfolding="partOf",
+        )

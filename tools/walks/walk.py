@@ -13,8 +13,8 @@ SILENT = "yes (λ κs x f. refl)"
 class Argument:
     """A parameter after the first: how the proof speaks of it."""
 
-    def __init__(self, param, lifetime, called):
-        self.param, self.lifetime, self.called = param, lifetime, called
+    def __init__(self, param, lifetime):
+        self.param, self.lifetime = param, lifetime
         self.name, self.ref, self.slice = dashed(param.name), param.ref, param.slice
         self.given = param.ref and param.mut
         self.x, self.type = f"x-{self.name}", param.type
@@ -72,14 +72,14 @@ class Argument:
 class Walk(Text):
     """A proof of a function whose first parameter refers to a struct, and that makes one call."""
 
-    def __init__(self, hook, callee, state, args, before):
-        """`state`: the struct's crate and path; `before`: the callee's parameters before `args`."""
+    def __init__(self, hook, callee, state, args):
+        """`state`: the struct's crate and path."""
         super().__init__(hook.crate)
         self.hook, self.callee, self.state = hook, callee, state[1][-1]
         self.shared = not hook.params[0].mut
         self.args, lifetime = [], 1
-        for k, param in enumerate(args):
-            self.args.append(Argument(param, lifetime, before + k))
+        for param in args:
+            self.args.append(Argument(param, lifetime))
             lifetime += param.ref
         self.refs = [a for a in self.args if a.ref]
         self.given = [a for a in self.args if a.given]

@@ -1,48 +1,41 @@
--- The monitor that holds a state of a run is a value of the code's type.
-use Prim.Native.Nat.{ℕ, zero, suc, _+_, _^_, _≤_, _<_}
+-- A chain for each list of steps: the monitors that hold the states of the definitions, with the answers of the definitions. Such a monitor
+-- is a value of the code's type, array by array, by what the invariant and the bounds say of the state (`held-holdable`); it stands for its
+-- state (`views`); and it answers a record as the contract asks (`record-answered`).
+use Prim.Native.Nat.{ℕ, suc, zero, _/_, _%_, _^_, _≤_, _<_}
 use native.Mathlib.Omega.{arith}
-use lib.Pow.{pow-pos}
-use mathlib.Core.Path.{_≡_, refl, ap₂, _∙_}
+use mathlib.Core.Path.{_≡_, sym, ap, _∙_}
+use mathlib.Core.List.{List, [], _∷_}
+use mathlib.Core.Option.{none}
 use mathlib.Core.Logic.{⊎-elim}
 use mathlib.Core.Bool.{Bool, true}
-use mathlib.Core.List.{List, [], _∷_, _++_, map}
+use lib.Pow.{pow-pos}
 use lib.Dec.{ltb, leb}
-use lib.ListN.{length, length-append, List·getD-map}
+use lib.ListN.{getD, length}
 use borrow.Author.Tests.{ltb-true}
-use Rattle.flow.specs.Box.{isFile, isTarget, Condition, forbid, separate, confine, Rule, State}
+use Rattle.flow.specs.Box.{State, isFile, isTarget, Condition, forbid, separate, confine, Rule}
+use Rattle.flow.specs.Rules.{lowestBroken}
+use Rattle.flow.specs.Verdicts.{outcome, answer, next}
+use Rattle.flow.specs.Contents.{Step, entry, memory, stepState, stepAt, stateAt}
+use Rattle.flow.specs.Consequences.{RefusedExactly, StoppedKeeps}
 use Rattle.flow.specs.Refusals.{itemsFit}
-use Rattle.flow.specs.Contents.{stateAt}
-use Rattle.flow.specs.Kept.{wellFormed, allWellFormed}
+use Rattle.flow.specs.Kept.{wellFormed}
+use Rattle.flow.proofs.Refused.{refusal-read, refused-exactly}
+use Rattle.flow.proofs.Consequences.{stopped-keeps}
+use Rattle.flow.proofs.Keeping.{Invariant, state-kept}
 use Rattle.flow.proofs.Bools.{and-l, and-r}
-use Rattle.flow.proofs.TableLaws.{table-length}
 use Rattle.flow.proofs.Rows.{target-lt, Rows}
 use Rattle.flow.proofs.Entries.{Each}
-use Rattle.flow.proofs.Keeping.{Invariant, state-kept}
-use Rattle.decision.specs.Chains.{Numbers, Holdable, ChainExists}
-use Rattle.decision.proofs.Stored.{tagIn, itemIn, setIn, blank, padded, row, rows, setsOf, fieldsOf, wordsOf, held, items-fit, action-lt, substitute-lt}
-use Rattle.decision.proofs.Bounds.{Below, table-below, Bounded, state-bounded, SetsFit, state-fits}
-use Rattle.decision.proofs.Chains.{monitorAt, answerAt, chain-over, answer-bytes}
-
--- ---- lists
-append-below : (limit : ℕ) (l m : List ℕ) → Below limit l → Below limit m → Below limit (l ++ m)
-append-below limit [] m h g k = g k
-append-below limit (x ∷ l) m h g zero = h 0
-append-below limit (x ∷ l) m h g (suc k) = append-below limit l m (λ i. h (suc i)) g k
-
-one-below : (limit x : ℕ) → x < limit → Below limit (x ∷ [])
-one-below limit x h zero = h
-one-below limit x h (suc k) = let e : 0 ≤ x = omega arith in omega arith
-
-append-numbers : (n m limit : ℕ) (l r : List ℕ) → Numbers n limit l → Numbers m limit r → Numbers (n + m) limit (l ++ r)
-append-numbers n m limit l r h g =
-    record { size = length-append l r ∙ ap₂ (λ (x y : ℕ). x + y) (h .size) (g .size); fits = append-below limit l r (h .fits) (g .fits) }
-
-padded-numbers : (n limit : ℕ) (l : List ℕ) → 0 < limit → Below limit l → Numbers n limit (padded n l)
-unfolding padded
-padded-numbers n limit l z h = record { size = table-length n _; fits = table-below n limit _ z (λ k b. h k) }
-
-one-number : (limit x : ℕ) → x < limit → Numbers 1 limit (x ∷ [])
-one-number limit x h = record { size = refl; fits = one-below limit x h }
+use Rattle.decision.specs.declared.Answer.{Answer}
+use Rattle.decision.specs.declared.Answer.the-variants.{Refused, Allow, Inhibit}
+use Rattle.decision.specs.View.{view}
+use Rattle.decision.specs.Answers.{wordOf, Sound, AnswersRecord}
+use Rattle.decision.specs.Logs.{inBytes}
+use Rattle.decision.specs.Chains.{Numbers, Holdable, ofBytes, ChainExists}
+use Rattle.decision.proofs.CodeLaws.{answerIs, word-is}
+use Rattle.decision.proofs.Stored.{held, held-view, partsOf, blank, fieldOf, setsOf, fieldsOf, wordsOf, fields-fit, substitute-lt, formed-at}
+use Rattle.decision.proofs.Telling.{kept-ruled, outcome-bytes}
+use Rattle.decision.proofs.Bounds.{state-bounded, state-ruled}
+use Rattle.decision.proofs.ListLaws.{Below, append-numbers, table-numbers, one-number}
 
 -- ---- entries
 each-below : (P : ℕ → Bool) → ((e : ℕ) → P e ≡ true → e < 64) → (l : List ℕ) → Each P l → Below 256 l
@@ -55,63 +48,85 @@ file-lt : (e : ℕ) → isFile e ≡ true → e < 64
 unfolding isFile
 file-lt e h = ltb-true e 64 (and-r (leb 24 e) _ h)
 
-rows-numbers : (live : ℕ) (l : List ℕ) → Rows live l → Numbers 16 (2 ^ 64) l
-rows-numbers live l r = record { size = r .size; fits = λ p. r .row p .fits }
+rows-numbers : {live : ℕ} {l : List ℕ} → Rows live l → Numbers 16 (2 ^ 64) l
+rows-numbers r = record { size = r .size; fits = λ p. r .row p .fits }
 
--- ---- the fields of rules
-tag-lt : (c : Condition) → tagIn c < 256
-unfolding tagIn
-tag-lt (forbid i x) = omega arith
-tag-lt (separate i j) = omega arith
-tag-lt (confine i x) = omega arith
+-- ---- the fields of a rule
+parts-lt : (c : Condition) → itemsFit c ≡ true → (partsOf c .0 < 256) × (partsOf c .1 < 64)
+unfolding itemsFit partsOf
+parts-lt (forbid i x) h = (omega arith, ltb-true i 64 h)
+parts-lt (separate i j) h = (omega arith, ltb-true i 64 (and-l _ (ltb j 64) h))
+parts-lt (confine i x) h = (omega arith, ltb-true i 64 h)
 
-item-lt : (c : Condition) → itemsFit c ≡ true → itemIn c < 64
-unfolding itemsFit itemIn
-item-lt (forbid i x) h = ltb-true i 64 h
-item-lt (separate i j) h = ltb-true i 64 (and-l _ (ltb j 64) h)
-item-lt (confine i x) h = ltb-true i 64 h
+field-lt : (r : Rule) → wellFormed r ≡ true → (n : ℕ) → fieldOf r n < 256
+unfolding fieldOf
+field-lt r w zero = parts-lt (r .condition) (fields-fit r w .0) .0
+field-lt r w (suc zero) = omega (arith, parts-lt (r .condition) (fields-fit r w .0) .1)
+field-lt r w (suc (suc zero)) = omega (arith, fields-fit r w .1)
+field-lt r w (suc (suc (suc zero))) = omega (arith, substitute-lt r w)
+field-lt r w (suc (suc (suc (suc k)))) = omega arith
 
-row-below : (r : Rule) (l : List ℕ) → wellFormed r ≡ true → Below 256 l → Below 256 (row r l)
-row-below r l w h zero = tag-lt (r .condition)
-row-below r l w h (suc zero) = let z : itemIn (r .condition) < 64 = item-lt (r .condition) (items-fit r w) in omega arith
-row-below r l w h (suc (suc zero)) = let z : r .action < 2 = action-lt r w in omega arith
-row-below r l w h (suc (suc (suc zero))) = let z : r .substitute < 64 = substitute-lt r w in omega arith
-row-below r l w h (suc (suc (suc (suc k)))) = h k
+module _ (steps : List Step) (h : (n : ℕ) → ofBytes (stepAt steps n)) (k : ℕ) where
+  pub held-holdable : Holdable (held (stateAt steps k))
+  unfolding held wordsOf setsOf fieldsOf
+  held-holdable =
+      let s = stateAt steps k in
+      let i = state-kept steps k in
+      let b = state-bounded steps k in
+      record {
+        words =
+            append-numbers (one-number (s .tables .live) (b .live))
+            (append-numbers (b .items) (append-numbers (rows-numbers (i .linking .feeders)) (rows-numbers (i .linking .fed))));
+        descriptors = record { size = i .quiet .size; fits = each-below isTarget target-lt (s .tables .descriptors) (i .entries .described) };
+        names = record { size = b .names; fits = each-below isFile file-lt (s .tables .names) (i .entries .named) };
+        sets = table-numbers 32 _ (pow-pos 64) (state-ruled steps h k .each);
+        fields =
+            append-numbers (table-numbers 128 _ (omega arith) (λ n. field-lt (getD (s .rules) (n / 4) blank) (formed-at (s .rules) (n / 4) (i .loadable)) (n % 4)))
+            (one-number (length (s .rules)) (let l : length (s .rules) ≤ 32 = i .counted in omega arith));
+      }
 
-rows-below : (rs : List Rule) → allWellFormed rs ≡ true → Below 256 (rows rs)
-unfolding rows allWellFormed
-rows-below [] h = λ k. omega arith
-rows-below (r ∷ rs) h = row-below r (rows rs) (and-l _ (allWellFormed rs) h) (rows-below rs (and-r (wellFormed r) _ h))
+-- ---- one record, from a state that a monitor holds to the state after it, where no rule is broken
+module _ (s : State) (bytes : List ℕ) (v : view (held s) ≡ s) (w : view (held (next s bytes)) ≡ next s bytes) (unbroken : lowestBroken (next s bytes) ≡ none) where
+  told : (a : Answer) → answerIs (answer s bytes) ≡ a → answer s bytes ≡ wordOf a
+  told a e = sym (word-is (answer s bytes)) ∙ ap wordOf e
 
-sets-below : (rs : List Rule) → SetsFit rs → Below (2 ^ 64) (map (λ r. setIn (r .condition)) rs)
-unfolding SetsFit setIn
-sets-below rs h k = rw (List·getD-map (λ (r : Rule). setIn (r .condition)) rs k blank) (h k)
+  pub record-answered : AnswersRecord (held s) bytes (record { answer = answerIs (answer s bytes); monitor = held (next s bytes) })
+  unfolding Sound outcome answer next wordOf answerIs RefusedExactly StoppedKeeps
+  record-answered =
+      record {
+        refusal = λ n. let h = refused-exactly s bytes n in rw v (λ e. sym (refusal-read s bytes) ∙ h .0 (told (Refused n) e), λ e. ap answerIs (h .1 (refusal-read s bytes ∙ e)));
+        refused-kept = λ n e. ap held (stopped-keeps s bytes n .0 (told (Refused n) e));
+        inhibited-kept = λ n e. ap held (stopped-keeps s bytes n .1 (told (Inhibit n) e));
+        answer = λ h. rw v (word-is (answer s bytes));
+        state = λ h. w ∙ ap (λ (u : State). next u bytes) (sym v);
+        sound = λ h. ap lowestBroken w ∙ unbroken;
+      }
 
-pub held-holdable : (s : State) → Invariant s → Bounded s → SetsFit (s .rules) → Holdable (held s)
-unfolding held wordsOf setsOf fieldsOf
-held-holdable s i b f =
-    record {
-      words =
-          append-numbers 1 96 (2 ^ 64) (s .tables .live ∷ []) _ (one-number (2 ^ 64) (s .tables .live) (b .live))
-          (append-numbers 64 32 (2 ^ 64) (s .items) _ (record { size = b .items-size; fits = b .items })
-          (append-numbers 16 16 (2 ^ 64) (s .tables .feeders) (s .tables .fed)
-          (rows-numbers (s .tables .live) (s .tables .feeders) (i .linking .feeders))
-          (rows-numbers (s .tables .live) (s .tables .fed) (i .linking .fed))));
-      descriptors = record { size = i .quiet .size; fits = each-below isTarget target-lt (s .tables .descriptors) (i .entries .described) };
-      names = record { size = b .names-size; fits = each-below isFile file-lt (s .tables .names) (i .entries .named) };
-      sets = padded-numbers 32 (2 ^ 64) _ (pow-pos 64) (sets-below (s .rules) f);
-      fields =
-          append-numbers 128 1 256 _ _ (padded-numbers 128 256 _ (omega arith) (rows-below (s .rules) (i .loadable)))
-          (one-number 256 (length (s .rules)) (let l : length (s .rules) ≤ 32 = i .counted in omega arith));
-    }
+unfoldable pub answerTo : State → Step → Answer
+answerTo s (entry bytes) = answerIs (answer s bytes)
+answerTo s memory = Allow
+
+pub answer-bytes : (s : State) → Invariant s → (x : Step) → inBytes (answerTo s x)
+unfolding answerTo answer inBytes
+answer-bytes s i (entry bytes) = outcome-bytes s (kept-ruled s i) bytes
+answer-bytes s i memory = tt
+
+-- ---- all steps
+pub views : (steps : List Step) (k : ℕ) → view (held (stateAt steps k)) ≡ stateAt steps k
+views steps k = held-view (stateAt steps k) (state-kept steps k) (state-bounded steps k .items .size)
 
 pub chain-exists : ChainExists
-unfolding ChainExists
+unfolding ChainExists stateAt stepState answerTo next
 chain-exists steps =
     record {
-      x = monitorAt steps;
-      a = answerAt steps;
-      chain = chain-over steps;
-      told = answer-bytes steps;
-      holdable = λ h k. held-holdable (stateAt steps k) (state-kept steps k) (state-bounded steps k) (state-fits steps h k);
+      x = λ k. held (stateAt steps k);
+      a = λ n. answerTo (stateAt steps n) (stepAt steps n);
+      chain =
+          record {
+            made = views steps 0;
+            answers = λ n bytes e. rw e (record-answered (stateAt steps n) bytes (views steps n) (rw e at (views steps (suc n))) (rw e at (state-kept steps (suc n) .unbroken)));
+            rests = λ n e. rw e;
+          };
+      told = λ n. answer-bytes (stateAt steps n) (state-kept steps n) (stepAt steps n);
+      holdable = held-holdable steps;
     }

@@ -1,37 +1,31 @@
--- A call by the hook is a record, and so a step of a chain.
+-- A call by the hook is a record, since the record of five numbers reads as their call; and so an event is a step of a chain.
 use Prim.Native.Nat.{ℕ, suc}
 use native.Mathlib.Omega.{arith}
-use mathlib.Core.Path.{_≡_, refl, sym, ap, subst, _∙_}
+use mathlib.Core.Path.{_≡_, refl, sym, ap, _∙_}
 use mathlib.Core.List.{List, map}
 use lib.ListN.{List·getD-map, length-map}
 use Rattle.flow.specs.Lists.{firstThat}
-use Rattle.flow.specs.Records.{byteAt, tagOf, statedLength, recordLength, valueOf, cutShort, knownTag, tagLength, wrongLength, callFrom, callIn, Reading, aCall, frameTests, contentOf, readingBy, reading}
+use Rattle.flow.specs.Records.{byteAt, tagOf, statedLength, recordLength, valueOf, cutShort, knownTag, tagLength, wrongLength, callFrom, callIn, aCall, frameTests, contentOf, readingBy, reading}
 use Rattle.flow.specs.Contents.{entry, memory, stepAt}
 use Rattle.decision.specs.declared.Monitor.{Monitor}
 use Rattle.decision.specs.declared.Answer.{Answer}
-use Rattle.decision.specs.Answers.{Answers, AnswersRecord}
+use Rattle.decision.specs.Answers.{AnswersRecord}
 use Rattle.decision.specs.TwoRuns.{Chain, Demand3OfCode}
 use Rattle.decision.specs.Chains.{callRecord, CallIsRecord, Event, given, called, moves, stepOf, eventAt, MixedChain, HookIsStep, Demand3OfHook}
 use Rattle.decision.proofs.TwoRuns.{demand3-of-code}
 
-pub read-back : (kind p a b c : ℕ) → reading (callRecord kind p a b c) ≡ aCall (callFrom kind p a b c)
+read-back : (kind p a b c : ℕ) → reading (callRecord kind p a b c) ≡ aCall (callFrom kind p a b c)
 unfolding callRecord reading readingBy frameTests contentOf callIn firstThat byteAt tagOf statedLength recordLength valueOf cutShort knownTag tagLength wrongLength
 read-back kind p a b c = refl
 
 pub call-is-record : CallIsRecord
 unfolding CallIsRecord
-call-is-record m kind p a b c r = (
-  subst (λ (x : Reading). Answers m x r) (sym (read-back kind p a b c)),
-  subst (λ (x : Reading). Answers m x r) (read-back kind p a b c),
-)
+call-is-record m kind p a b c r = (λ h. rw (read-back kind p a b c) h, λ h. rw (read-back kind p a b c) at h)
 
 module _ (events : List Event) where
   pub step-at : (n : ℕ) → stepAt (map stepOf events) n ≡ stepOf (eventAt events n)
   unfolding stepOf
   step-at n = List·getD-map stepOf events n moves
-
-  abbrev step-by : (n : ℕ) (e : Event) → eventAt events n ≡ e → stepAt (map stepOf events) n ≡ stepOf e
-  step-by n e h = step-at n ∙ ap stepOf h
 
   module _ (x : ℕ → Monitor) (a : ℕ → Answer) where
     mixed-chain : MixedChain events x a → Chain (map stepOf events) x a
@@ -40,7 +34,7 @@ module _ (events : List Event) where
         record {
           made = c .made;
           answers = λ n bytes h. by-event n (eventAt events n) bytes refl (sym (step-at n) ∙ h);
-          rests = λ n h. at-rest n (eventAt events n) refl (sym (step-at n) ∙ h);
+          rests = λ n h. c .rests n (rests (eventAt events n) (sym (step-at n) ∙ h));
         }
       where
         by-event : (n : ℕ) (e : Event) (bytes : List ℕ) → eventAt events n ≡ e → stepOf e ≡ entry bytes
@@ -48,23 +42,22 @@ module _ (events : List Event) where
         by-event n (given l) bytes h k = c .answers n bytes (h ∙ (cc))
         by-event n (called kind p d e f) bytes h k =
             let q : callRecord kind p d e f ≡ bytes = cc in
-            subst (λ (l : List ℕ). AnswersRecord (x n) l (record { answer = a n; monitor = x (suc n) })) q
-            (call-is-record (x n) kind p d e f (record { answer = a n; monitor = x (suc n) }) .0 (c .calls n kind p d e f h))
+            rw (← q) (call-is-record (x n) kind p d e f _ .0 (c .calls n kind p d e f h))
         by-event n moves bytes h k = absurd (let z : _≡_ {A = ℕ} 0 1 = cc in let y : ⊥ = omega arith in y)
 
-        at-rest : (n : ℕ) (e : Event) → eventAt events n ≡ e → stepOf e ≡ memory → x (suc n) ≡ x n
-        at-rest n (given l) h k = absurd (let z : _≡_ {A = ℕ} 0 1 = cc in let y : ⊥ = omega arith in y)
-        at-rest n (called kind p d e f) h k = absurd (let z : _≡_ {A = ℕ} 0 1 = cc in let y : ⊥ = omega arith in y)
-        at-rest n moves h k = c .rests n h
+        rests : (e : Event) → stepOf e ≡ memory → e ≡ moves
+        rests (given l) k = cc
+        rests (called kind p d e f) k = cc
+        rests moves k = refl
 
     chain-mixed : Chain (map stepOf events) x a → MixedChain events x a
     unfolding stepOf CallIsRecord
     chain-mixed c =
         record {
           made = c .made;
-          answers = λ n bytes h. c .answers n bytes (step-by n (given bytes) h);
-          calls = λ n kind p d e f h. call-is-record (x n) kind p d e f (record { answer = a n; monitor = x (suc n) }) .1 (c .answers n (callRecord kind p d e f) (step-by n (called kind p d e f) h));
-          rests = λ n h. c .rests n (step-by n moves h);
+          answers = λ n bytes h. c .answers n bytes (step-at n ∙ ap stepOf h);
+          calls = λ n kind p d e f h. call-is-record (x n) kind p d e f _ .1 (c .answers n (callRecord kind p d e f) (step-at n ∙ ap stepOf h));
+          rests = λ n h. c .rests n (step-at n ∙ ap stepOf h);
         }
 
 pub hook-is-step : HookIsStep

@@ -8,10 +8,10 @@ pub mod CodeLaws
 pub mod TwoRuns
 pub mod HookLaws
 pub mod Stored
+pub mod ListLaws
+pub mod OutcomeLaws
 pub mod Telling
 pub mod Bounds
-pub mod Chains
 pub mod Holding
-pub mod LogTelling
 pub mod Operations
 pub mod OperationChains

@@ -1,15 +1,12 @@
 -- A rule is refused with the number of the first test that holds, or loaded behind the others.
 use Prim.Native.Nat.{ℕ, _≤_, _<_}
-use native.Mathlib.Omega.{arith}
-use mathlib.Core.Path.{_≡_, refl, sym, ap, _∙_}
+use mathlib.Core.Path.{_≡_, refl, sym, _∙_}
 use mathlib.Core.Bool.{Bool, true, false}
 use mathlib.Core.List.{List, [], _∷_, _++_}
-use mathlib.Core.Option.{Option, none, some}
 use lib.Dec.{leb}
 use lib.ListN.{length}
 use borrow.Author.Tests.{le-leb, lt-leb}
 use Rattle.flow.specs.Lists.{_⇒_, firstThat, refusalFrom}
-use Rattle.flow.specs.Box.{Rule, State}
 use Rattle.flow.specs.Rules.{broken}
 use Rattle.flow.specs.Records.{aRule}
 use Rattle.flow.specs.Refusals.{fieldTests, ruleTests, testsOf}
@@ -60,17 +57,14 @@ module _ (m : Monitor) (r : RuleFields) (n : ℕ) (e : refusalFrom n ≡ firstTh
       unfolding firstThat
       rule-broken h = refused-as m (aRule (ruleFrom r)) 12 (by-state false true room (broken-is ∙ h))
 
-      untested : b ≡ false → firstThat (ruleTests (view m) (ruleFrom r)) ≡ none
-      unfolding testsOf firstThat
-      untested h = by-state false false room (broken-is ∙ h)
-
       stored : (s g : List ℕ) → rulesOf s g ≡ rulesOf (m .sets) (m .fields) ++ (ruleFrom r ∷ []) → view (monitor (m .words) (m .descriptors) (m .names) s g) ≡ withRule (view m) (ruleFrom r)
       unfolding view withRule
-      stored s g v = ap (λ (x : List Rule). record { tables = mapsOf (m .words) (m .descriptors) (m .names) .tables; items = mapsOf (m .words) (m .descriptors) (m .names) .items; rules = x }) v
+      stored s g v = rw v
 
       pub rule-loaded : b ≡ false → (s g : List ℕ) → rulesOf s g ≡ rulesOf (m .sets) (m .fields) ++ (ruleFrom r ∷ [])
           → Answers m (aRule (ruleFrom r)) (record { answer = Loaded k; monitor = monitor (m .words) (m .descriptors) (m .names) s g })
-      rule-loaded h s g v = loaded-as m _ (ruleFrom r) (untested h) k (sym loaded-count) (stored s g v)
+      unfolding testsOf firstThat
+      rule-loaded h s g v = loaded-as m _ (ruleFrom r) (by-state false false room (broken-is ∙ h)) k (sym loaded-count) (stored s g v)
 
     -- what `store` asks
     pub store-asks : k < 32 → (countOf (m .fields) < 32) × (r .substitute < 64)

@@ -1,208 +1,212 @@
--- The operations of a kernel, whole logs among them, are steps.
+-- The operations of a kernel, whole logs among them, are steps. One operation tells its steps the words of the definitions and leaves the state
+-- after them (`operation-done`); so the words of all operations are those of all steps (`all-told`), and between two operations the state is
+-- that of the steps so far (`state-before`). Demand 3 is said of any two monitors on which the operations are done (`demand3-of-done`).
 use Prim.Native.Nat.{ℕ, zero, suc, _+_, _≤_, _<_}
 use native.Mathlib.Omega.{arith}
-use mathlib.Core.Path.{_≡_, refl, sym, ap, ap₂, subst, _∙_}
-use mathlib.Core.Logic.{inl, inr, ⊎-elim}
+use mathlib.Core.Path.{_≡_, refl, sym, ap, ap₂, _∙_}
+use mathlib.Core.Logic.{_⊎_, ⊎-elim}
 use mathlib.Core.Bool.{Bool, true}
 use mathlib.Core.List.{List, [], _∷_, _++_, map, append-assoc}
-use lib.ListN.{getD, length, take, drop, length-append, take-append-drop}
-use lib.Seq.{take-nil, take-suc, take-append-seam}
-use Rattle.flow.specs.Box.{State, fresh}
-use Rattle.flow.specs.Rules.{lowestBroken}
+use lib.ListN.{getD, length, take, drop, length-append}
+use lib.Seq.{take-nil, take-append-seam}
+use Rattle.flow.specs.Box.{containerCount, State, fresh}
 use Rattle.flow.specs.Records.{recordsOf}
-use Rattle.flow.specs.Verdicts.{Answer as Word, allow, answer, outcome, stateAfter, answerAll, runLog}
-use Rattle.flow.specs.Queries.{itemsQuery}
-use Rattle.flow.specs.Contents.{Step, entry, memory, stepState, stepAt, stateAt}
-use Rattle.flow.specs.TwoRuns.{RecordedWithout, RulesForbid, Demand3}
-use Rattle.flow.proofs.Keeping.{fresh-kept}
-use Rattle.flow.proofs.TwoRuns.{run-tracker, demand3}
-use Rattle.tracker.specs.Replies.{replyOf}
+use Rattle.flow.specs.Verdicts.{Answer as Word, allow, answer, outcome, stateAfter, Replay, answerAll, runLog}
+use Rattle.flow.specs.Contents.{Step, entry, memory, stepState, stepAt, stateAt, Machine, runAt}
+use Rattle.flow.specs.TwoRuns.{Agree, RulesForbid}
 use Rattle.decision.specs.declared.Monitor.{Monitor}
 use Rattle.decision.specs.declared.Answer.{Answer}
 use Rattle.decision.specs.View.{view}
-use Rattle.decision.specs.Answers.{wordOf, Sound, AnswersRecord}
+use Rattle.decision.specs.Answers.{wordOf, Sound, IsFresh, AnswersRecord}
 use Rattle.decision.specs.Logs.{wordFrom, AnswersLogBy, AnswersLog}
 use Rattle.decision.specs.TwoRuns.{AnswersWithout}
-use Rattle.decision.specs.Chains.{callRecord, CallIsRecord, given, called, moves, stepOf, Operation, event, run, stepsOf, allSteps, moment, operationAt, AnswersRun, AnswersOperation, OperationChain, toldTo, toldBy, told, OperationsAreSteps, RulesToldForbid, Demand3OfOperations}
+use Rattle.decision.specs.Chains.{callRecord, CallIsRecord, Event, given, called, moves, stepOf, Operation, event, run, short, stepsOf, allSteps, moment, operationAt, EventsAreSteps, AnswersRun, AnswersOperation, OperationChain, toldTo, toldBy, told, OperationsAreSteps, RulesToldForbid, Demand3OfOperations}
 use Rattle.decision.specs.Telling.{LogCodesTell}
-use Rattle.decision.proofs.TwoRuns.{forbidden-loaded}
+use Rattle.decision.proofs.TwoRuns.{by-items, by-rules, forbidden-loaded, fresh-sound}
 use Rattle.decision.proofs.HookLaws.{call-is-record}
-use Rattle.decision.proofs.LogTelling.{log-codes-tell}
+use Rattle.decision.proofs.Telling.{log-codes-tell}
 
--- ---- the state after a list of steps, and a word for each
-unfoldable pub stateBy : State → List Step → State
-stateBy s [] = s
-stateBy s (x ∷ xs) = stateBy (stepState s x) xs
-
-unfoldable wordOn : State → Step → Word
+-- ---- the words that steps are told, and the state after them
+unfoldable pub wordOn : State → Step → Word
 wordOn s (entry bytes) = answer s bytes
 wordOn s memory = allow
 
-unfoldable wordsBy : State → List Step → List Word
-wordsBy s [] = []
-wordsBy s (x ∷ xs) = wordOn s x ∷ wordsBy (stepState s x) xs
+abbrev later : Word → Replay → Replay
+later w r = record { answers = w ∷ r .answers; state = r .state }
 
-pub state-append : (s : State) (xs ys : List Step) → stateBy s (xs ++ ys) ≡ stateBy (stateBy s xs) ys
-unfolding stateBy
-state-append s [] ys = refl
-state-append s (x ∷ xs) ys = state-append (stepState s x) xs ys
+unfoldable pub replay : State → List Step → Replay
+replay s [] = record { answers = []; state = s }
+replay s (x ∷ xs) = later (wordOn s x) (replay (stepState s x) xs)
 
-words-append : (s : State) (xs ys : List Step) → wordsBy s (xs ++ ys) ≡ wordsBy s xs ++ wordsBy (stateBy s xs) ys
-unfolding stateBy wordsBy
-words-append s [] ys = refl
-words-append s (x ∷ xs) ys = ap (λ (ws : List Word). wordOn s x ∷ ws) (words-append (stepState s x) xs ys)
+abbrev pub stateBy : State → List Step → State
+stateBy s xs = replay s xs .state
 
-state-at : (xs : List Step) (k : ℕ) → k ≤ length xs → stateAt xs k ≡ stateBy fresh (take k xs)
-unfolding stateAt stateBy
-state-at xs zero l = refl
-state-at xs (suc k) l =
-    ap (λ (s : State). stepState s (stepAt xs k)) (state-at xs k (omega arith))
-    ∙ sym (state-append fresh (take k xs) (stepAt xs k ∷ []))
-    ∙ ap (stateBy fresh) (sym (take-suc xs k memory l))
+replay-append : (s : State) (xs ys : List Step) → replay s (xs ++ ys) ≡ record { answers = replay s xs .answers ++ replay (stateBy s xs) ys .answers; state = stateBy (stateBy s xs) ys }
+unfolding replay
+replay-append s [] ys = refl
+replay-append s (x ∷ xs) ys = ap (later (wordOn s x)) (replay-append (stepState s x) xs ys)
 
--- a record of the list stands before its end
-place-lt : (xs : List Step) (k : ℕ) (bytes : List ℕ) → stepAt xs k ≡ entry bytes → k < length xs
-place-lt [] k bytes e = absurd (let z : _≡_ {A = ℕ} 0 1 = cc in let y : ⊥ = omega arith in y)
-place-lt (x ∷ xs) zero bytes e = omega arith
-place-lt (x ∷ xs) (suc k) bytes e = let l : k < length xs = place-lt xs k bytes e in omega arith
+-- the records of a log
+pub records-replayed : (s : State) (rs : List (List ℕ)) → answerAll s rs ≡ replay s (map entry rs)
+unfolding answerAll replay wordOn stepState answer
+records-replayed s [] = refl
+records-replayed s (r ∷ rs) = ap (later (answer s r)) (records-replayed (stateAfter s (outcome s r)) rs)
 
-word-at : (s : State) (xs : List Step) (k : ℕ) (bytes : List ℕ) → stepAt xs k ≡ entry bytes → getD (wordsBy s xs) k allow ≡ answer (stateBy s (take k xs)) bytes
-unfolding stateBy wordsBy wordOn
+-- step k of a list: the state before it, and the word that it is told
+state-more : (s : State) (xs : List Step) (k : ℕ) → stateBy s (take (suc k) xs) ≡ stepState (stateBy s (take k xs)) (stepAt xs k)
+unfolding replay stepState
+state-more s [] k = rw (take-nil {A = Step} k)
+state-more s (x ∷ xs) zero = refl
+state-more s (x ∷ xs) (suc k) = state-more (stepState s x) xs k
+
+state-at : (xs : List Step) (k : ℕ) → stateAt xs k ≡ stateBy fresh (take k xs)
+unfolding stateAt replay
+state-at xs zero = refl
+state-at xs (suc k) = rw (state-at xs k) (sym (state-more fresh xs k))
+
+word-at : (s : State) (xs : List Step) (k : ℕ) (bytes : List ℕ) → stepAt xs k ≡ entry bytes → getD (replay s xs .answers) k allow ≡ answer (stateBy s (take k xs)) bytes
+unfolding replay wordOn
 word-at s [] k bytes e = absurd (let z : _≡_ {A = ℕ} 0 1 = cc in let y : ⊥ = omega arith in y)
 word-at s (x ∷ xs) zero bytes e = ap (wordOn s) e
 word-at s (x ∷ xs) (suc k) bytes e = word-at (stepState s x) xs k bytes e
 
--- the records of a log
-pub records-state : (s : State) (rs : List (List ℕ)) → answerAll s rs .state ≡ stateBy s (map entry rs)
-unfolding answerAll stateBy stepState
-records-state s [] = refl
-records-state s (r ∷ rs) = records-state (stateAfter s (outcome s r)) rs
-
-records-words : (s : State) (rs : List (List ℕ)) → answerAll s rs .answers ≡ wordsBy s (map entry rs)
-unfolding answerAll wordsBy wordOn stepState answer
-records-words s [] = refl
-records-words s (r ∷ rs) = ap (λ (ws : List Word). answer s r ∷ ws) (records-words (stateAfter s (outcome s r)) rs)
-
 -- ---- one operation
-record Done (m : Monitor) (steps : List Step) (words : List Word) (next : Monitor) : Type 0 where
-  pub words-are : words ≡ wordsBy (view m) steps
-  pub state : view next ≡ stateBy (view m) steps
+pub record Done (m : Monitor) (steps : List Step) (words : List Word) (next : Monitor) : Type 0 where
+  pub replayed : record { answers = words; state = view next } ≡ replay (view m) steps
   pub sound : Sound next
+
+abbrev joined : {v w : List Word} {s t : State} → v ≡ w → s ≡ t → _≡_ {A = Replay} (record { answers = v; state = s }) (record { answers = w; state = t })
+joined e f = ap₂ {C = Replay} (λ (ws : List Word) (u : State). record { answers = ws; state = u }) e f
 
 record-done : (m : Monitor) (bytes : List ℕ) (a : Answer) (next : Monitor) → AnswersRecord m bytes (record { answer = a; monitor = next }) → Sound m
     → Done m (entry bytes ∷ []) (wordOf a ∷ []) next
-unfolding stateBy wordsBy wordOn stepState answer outcome
-record-done m bytes a next h s = record { words-are = ap (λ (w : Word). w ∷ []) (h .answer s); state = h .state s; sound = h .sound s }
+unfolding replay wordOn stepState answer outcome
+record-done m bytes a next h s = record { replayed = joined (ap (λ (w : Word). w ∷ []) (h .answer s)) (h .state s); sound = h .sound s }
 
-run-done : (m : Monitor) (log codes : List ℕ) (next : Monitor) → AnswersRun m log codes next → Sound m
+-- what is promised of a log, by the room for its codes
+pub answered-by : {b : Bool} {m next : Monitor} {log codes : List ℕ} (h : AnswersRun b m log codes next) → AnswersLogBy b m log (h .before) (record { reply = h .reply; monitor = next }) codes
+unfolding AnswersLog
+answered-by h = rw (h .room) at (h .answers)
+
+run-done : (m : Monitor) (log codes : List ℕ) (next : Monitor) → AnswersRun true m log codes next → Sound m
     → Done m (map entry (recordsOf log)) (map wordFrom (take (length (recordsOf log)) codes)) next
-unfolding AnswersLog AnswersLogBy LogCodesTell runLog
+unfolding AnswersLogBy LogCodesTell runLog
 run-done m log codes next h s =
-    let w : AnswersLogBy true m log (h .before) (record { reply = h .reply; monitor = next }) codes =
-    subst (λ (b : Bool). AnswersLogBy b m log (h .before) (record { reply = h .reply; monitor = next }) codes) (h .room) (h .answers) in
-    let d = w .3 s in
-    record {
-      words-are = ap (map wordFrom) (d .0) ∙ log-codes-tell m log ∙ records-words (view m) (recordsOf log);
-      state = d .1 ∙ records-state (view m) (recordsOf log);
-      sound = d .2;
-    }
+    let d = answered-by h .3 s in
+    record { replayed = joined (ap (map wordFrom) (d .0) ∙ log-codes-tell m log) (d .1) ∙ records-replayed (view m) (recordsOf log); sound = d .2 }
 
-operation-done : (o : Operation) (m : Monitor) (a : Answer) (codes : List ℕ) (next : Monitor) → AnswersOperation o m a codes next → Sound m → Done m (stepsOf o) (toldBy o a codes) next
-unfolding AnswersOperation stepsOf stepOf toldBy toldTo CallIsRecord stateBy wordsBy wordOn stepState
+pub operation-done : (o : Operation) (m : Monitor) (a : Answer) (codes : List ℕ) (next : Monitor) → AnswersOperation o m a codes next → Sound m → Done m (stepsOf o) (toldBy o (wordOf a) codes) next
+unfolding AnswersOperation AnswersLogBy stepsOf stepOf toldBy toldTo CallIsRecord replay wordOn stepState
 operation-done (event (given bytes)) m a codes next h s = record-done m bytes a next h s
-operation-done (event (called kind p d e f)) m a codes next h s =
-    record-done m (callRecord kind p d e f) a next (call-is-record m kind p d e f (record { answer = a; monitor = next }) .0 h) s
-operation-done (event moves) m a codes next h s = record { words-are = refl; state = ap view h; sound = subst Sound (sym h) s }
+operation-done (event (called kind p d e f)) m a codes next h s = record-done m (callRecord kind p d e f) a next (call-is-record m kind p d e f _ .0 h) s
+operation-done (event moves) m a codes next h s = record { replayed = joined refl (ap view h); sound = rw h s }
 operation-done (run log) m a codes next h s = run-done m log codes next h s
+operation-done (short log some) m a codes next h s = let e : next ≡ m = answered-by h .1 in record { replayed = joined refl (ap view e); sound = rw e s }
 
--- ---- all operations, from any sound monitor
-abbrev Answered : List Operation → (ℕ → Monitor) → (ℕ → Answer) → (ℕ → List ℕ) → Type 0
-Answered os x a codes = (n : ℕ) → AnswersOperation (operationAt os n) (x n) (a n) (codes n) (x (suc n))
+-- ---- all operations, from any sound monitor, told the words w and the codes of logs
+abbrev pub AllDone : List Operation → (ℕ → Monitor) → (ℕ → Word) → (ℕ → List ℕ) → Type 0
+AllDone os x w codes = (n : ℕ) → Sound (x n) → Done (x n) (stepsOf (operationAt os n)) (toldBy (operationAt os n) (w n) (codes n)) (x (suc n))
 
-all-told : (os : List Operation) (x : ℕ → Monitor) (a : ℕ → Answer) (codes : ℕ → List ℕ) → Answered os x a codes → Sound (x 0)
-    → told os a codes ≡ wordsBy (view (x 0)) (allSteps os)
-unfolding told allSteps wordsBy
-all-told [] x a codes h s = refl
-all-told (o ∷ os) x a codes h s =
-    let d : Done (x 0) (stepsOf o) (toldBy o (a 0) (codes 0)) (x 1) = operation-done o (x 0) (a 0) (codes 0) (x 1) (h 0) s in
-    let rest = all-told os (λ n. x (suc n)) (λ n. a (suc n)) (λ n. codes (suc n)) (λ n. h (suc n)) (d .sound) in
-    ap₂ (λ (v w : List Word). v ++ w) (d .words-are) (rest ∙ ap (λ (u : State). wordsBy u (allSteps os)) (d .state))
-    ∙ sym (words-append (view (x 0)) (stepsOf o) (allSteps os))
-
-all-states : (os : List Operation) (x : ℕ → Monitor) (a : ℕ → Answer) (codes : ℕ → List ℕ) → Answered os x a codes → Sound (x 0)
-    → (n : ℕ) → Sound (x n) × (view (x n) ≡ stateBy (view (x 0)) (allSteps (take n os)))
-unfolding allSteps stateBy stepsOf stepOf stepState
-all-states os x a codes h s zero = (s, refl)
-all-states [] x a codes h s (suc n) =
-    let d : Done (x 0) (memory ∷ []) (toldBy (event moves) (a 0) (codes 0)) (x 1) = operation-done (event moves) (x 0) (a 0) (codes 0) (x 1) (h 0) s in
-    let rest = all-states [] (λ i. x (suc i)) (λ i. a (suc i)) (λ i. codes (suc i)) (λ i. h (suc i)) (d .sound) n in
-    (rest .0, rest .1 ∙ ap (λ (l : List Operation). stateBy (view (x 1)) (allSteps l)) (take-nil n) ∙ d .state)
-all-states (o ∷ os) x a codes h s (suc n) =
-    let d : Done (x 0) (stepsOf o) (toldBy o (a 0) (codes 0)) (x 1) = operation-done o (x 0) (a 0) (codes 0) (x 1) (h 0) s in
-    let rest = all-states os (λ i. x (suc i)) (λ i. a (suc i)) (λ i. codes (suc i)) (λ i. h (suc i)) (d .sound) n in
-    (rest .0, rest .1 ∙ ap (λ (u : State). stateBy u (allSteps (take n os))) (d .state) ∙ sym (state-append (view (x 0)) (stepsOf o) (allSteps (take n os))))
+all-told : (os : List Operation) (x : ℕ → Monitor) (w : ℕ → Word) (codes : ℕ → List ℕ) → AllDone os x w codes → Sound (x 0)
+    → told os w codes ≡ replay (view (x 0)) (allSteps os) .answers
+unfolding told allSteps replay
+all-told [] x w codes h s = refl
+all-told (o ∷ os) x w codes h s =
+    let d : Done (x 0) (stepsOf o) (toldBy o (w 0) (codes 0)) (x 1) = h 0 s in
+    let rest = all-told os (λ n. x (suc n)) (λ n. w (suc n)) (λ n. codes (suc n)) (λ n. h (suc n)) (d .sound) in
+    rw (replay-append (view (x 0)) (stepsOf o) (allSteps os), stateBy, ← (d .replayed)) (ap (λ (ws : List Word). toldBy o (w 0) (codes 0) ++ ws) rest)
 
 -- ---- the moments at which operations start
-all-append : (l m : List Operation) → allSteps (l ++ m) ≡ allSteps l ++ allSteps m
+split : (os : List Operation) (n : ℕ) → allSteps os ≡ allSteps (take n os) ++ allSteps (drop n os)
 unfolding allSteps
-all-append [] m = refl
-all-append (o ∷ l) m = ap (λ (xs : List Step). stepsOf o ++ xs) (all-append l m) ∙ sym (append-assoc (stepsOf o) (allSteps l) (allSteps m))
+split [] zero = refl
+split [] (suc n) = refl
+split (o ∷ os) zero = refl
+split (o ∷ os) (suc n) = rw append-assoc (ap (λ (xs : List Step). stepsOf o ++ xs) (split os n))
 
-module _ (os : List Operation) (n : ℕ) where
-  split : allSteps os ≡ allSteps (take n os) ++ allSteps (drop n os)
-  split = ap allSteps (sym (take-append-drop n os)) ∙ all-append (take n os) (drop n os)
+-- the state after one more operation; past the end of the list memory moves
+take-more : (s : State) (os : List Operation) (n : ℕ) → stateBy s (allSteps (take (suc n) os)) ≡ stateBy (stateBy s (allSteps (take n os))) (stepsOf (operationAt os n))
+unfolding allSteps replay stepsOf stepOf stepState
+take-more s [] n = rw (take-nil {A = Operation} n)
+take-more s (o ∷ os) zero = rw (stateBy, replay-append s (stepsOf o) [])
+take-more s (o ∷ os) (suc n) = rw (stateBy, replay-append s (stepsOf o) (allSteps (take (suc n) os)), replay-append s (stepsOf o) (allSteps (take n os))) (take-more (stateBy s (stepsOf o)) os n)
 
-  moment-le : moment os n ≤ length (allSteps os)
+module _ (os : List Operation) where
+  moment-le : (n : ℕ) → moment os n ≤ length (allSteps os)
   unfolding moment
-  moment-le = let e : length (allSteps os) ≡ length (allSteps (take n os)) + length (allSteps (drop n os)) = ap length split ∙ length-append (allSteps (take n os)) (allSteps (drop n os)) in omega arith
+  moment-le n = rw (split os n, length-append (allSteps (take n os)) (allSteps (drop n os))) (omega arith)
 
-  pub state-moment : stateAt (allSteps os) (moment os n) ≡ stateBy fresh (allSteps (take n os))
+  state-moment : (n : ℕ) → stateAt (allSteps os) (moment os n) ≡ stateBy fresh (allSteps (take n os))
   unfolding moment
-  state-moment =
-      state-at (allSteps os) (moment os n) moment-le
-      ∙ ap (stateBy fresh) (ap (take (moment os n)) split ∙ take-append-seam (allSteps (take n os)) (allSteps (drop n os)))
+  state-moment n = state-at (allSteps os) (moment os n) ∙ ap (stateBy fresh) (ap (take (moment os n)) (split os n) ∙ take-append-seam (allSteps (take n os)) (allSteps (drop n os)))
 
-module _ (os : List Operation) (x : ℕ → Monitor) (a : ℕ → Answer) (codes : ℕ → List ℕ) (c : OperationChain os x a codes) where
-  starts-sound : Sound (x 0)
-  unfolding Sound
-  starts-sound = ap lowestBroken (c .made) ∙ fresh-kept .unbroken
+  pub next-moment : (n : ℕ) → stateAt (allSteps os) (moment os (suc n)) ≡ stateBy (stateAt (allSteps os) (moment os n)) (stepsOf (operationAt os n))
+  next-moment n = rw (state-moment n) (state-moment (suc n) ∙ take-more fresh os n)
 
+-- ---- a fresh monitor on which all operations are done
+module _ (os : List Operation) (x : ℕ → Monitor) (w : ℕ → Word) (codes : ℕ → List ℕ) (made : IsFresh (x 0)) (done : AllDone os x w codes) where
   state-before : (n : ℕ) → Sound (x n) × (view (x n) ≡ stateAt (allSteps os) (moment os n))
-  state-before n =
-      let h = all-states os x a codes (c .answers) starts-sound n in
-      (h .0, h .1 ∙ ap (λ (s : State). stateBy s (allSteps (take n os))) (c .made) ∙ sym (state-moment os n))
+  unfolding moment allSteps stateAt
+  state-before zero = (fresh-sound (x 0) made, made)
+  state-before (suc n) =
+      let h = state-before n in
+      let d = done n (h .0) in
+      (d .sound, ap (λ (r : Replay). r .state) (d .replayed) ∙ ap (λ (s : State). stateBy s (stepsOf (operationAt os n))) (h .1) ∙ sym (next-moment os n))
 
-  told-at : (place : ℕ) (bytes : List ℕ) → stepAt (allSteps os) place ≡ entry bytes → getD (told os a codes) place allow ≡ answer (stateAt (allSteps os) place) bytes
-  told-at place bytes e =
-      let steps : List Step = allSteps os in
-      let l : place < length steps = place-lt steps place bytes e in
-      ap (λ (ws : List Word). getD ws place allow) (all-told os x a codes (c .answers) starts-sound ∙ ap (λ (s : State). wordsBy s steps) (c .made))
-      ∙ word-at fresh steps place bytes e
-      ∙ ap (λ (s : State). answer s bytes) (sym (state-at steps place (omega arith)))
+  told-at : (place : ℕ) (bytes : List ℕ) → stepAt (allSteps os) place ≡ entry bytes → getD (told os w codes) place allow ≡ answer (stateAt (allSteps os) place) bytes
+  told-at place bytes e = rw (all-told os x w codes done (fresh-sound (x 0) made), made, state-at (allSteps os) place) (word-at fresh (allSteps os) place bytes e)
 
-  barred : (chosen : ℕ → Bool) (j k : ℕ) → RulesToldForbid chosen (allSteps os) (told os a codes) j k → RulesForbid chosen (stateAt (allSteps os) j) k
+  barred : (chosen : ℕ → Bool) (j k : ℕ) → RulesToldForbid chosen (allSteps os) (told os w codes) j k → RulesForbid chosen (stateAt (allSteps os) j) k
   unfolding RulesToldForbid RulesForbid
   barred chosen j k h i l m =
-      let w = h i l m in
-      forbidden-loaded (allSteps os) (w .place) j (w .earlier) (w .bytes) (w .is-record) (w .number)
-      (sym (told-at (w .place) (w .bytes) (w .is-record)) ∙ w .answered) (w .loaded) (w .is-rule) k i (w .forbidden)
+      let t = h i l m in
+      forbidden-loaded (allSteps os) (t .place) j (t .earlier) (t .bytes) (t .is-record) (t .number)
+      (sym (told-at (t .place) (t .bytes) (t .is-record)) ∙ t .answered) (t .loaded) (t .is-rule) k i (t .forbidden)
 
-  clean : (chosen : ℕ → Bool) (n k : ℕ) → AnswersWithout chosen (x n) k → RecordedWithout chosen (stateAt (allSteps os) (moment os n)) k
-  unfolding AnswersWithout RecordedWithout replyOf
-  clean chosen n k h w e = h w (sym e ∙ ap (λ (s : State). itemsQuery s k) (sym (state-before n .1)))
+-- demand 3 of two fresh monitors on which the same operations are done
+pub demand3-of-done : (W : Type 0) (m : Machine W) (chosen : ℕ → Bool) (os : List Operation) (in₁ in₂ : ℕ → W) → Agree chosen (allSteps os) in₁ in₂
+    → (x y : ℕ → Monitor) (v w : ℕ → Word) (f g : ℕ → List ℕ) → IsFresh (x 0) → AllDone os x v f → IsFresh (y 0) → AllDone os y w g
+    → (let steps = allSteps os in
+    (c : ℕ) → c < containerCount
+    → ((n : ℕ) → AnswersWithout chosen (x n) c ⊎ AnswersWithout chosen (y n) c
+    → runAt m in₁ steps (moment os n) .contents c ≡ runAt m in₂ steps (moment os n) .contents c)
+    × ((j k : ℕ) → j ≤ k → k ≤ length steps → RulesToldForbid chosen steps (told os v f) j c ⊎ RulesToldForbid chosen steps (told os w g) j c
+    → runAt m in₁ steps k .contents c ≡ runAt m in₂ steps k .contents c))
+demand3-of-done W m chosen os in₁ in₂ agree x y v w f g mx dx my dy c hc =
+    let items = by-items m chosen (allSteps os) in₁ in₂ agree c hc in
+    let rules = by-rules m chosen (allSteps os) in₁ in₂ agree c hc in (
+      λ n. let at = items (moment os n) (moment-le os n) in ⊎-elim (at (x n) (state-before os x v f mx dx n .1)) (at (y n) (state-before os y w g my dy n .1)),
+      λ j k lj lk. ⊎-elim (λ h. rules j k lj lk (barred os x v f mx dx chosen j c h)) (λ h. rules j k lj lk (barred os y w g my dy chosen j c h)),
+    )
+
+-- ---- a chain of operations
+chain-done : (os : List Operation) (x : ℕ → Monitor) (a : ℕ → Answer) (codes : ℕ → List ℕ) → OperationChain os x a codes → AllDone os x (λ n. wordOf (a n)) codes
+chain-done os x a codes c n s = operation-done (operationAt os n) (x n) (a n) (codes n) (x (suc n)) (c .answers n) s
 
 pub operations-are-steps : OperationsAreSteps
 unfolding OperationsAreSteps
-operations-are-steps os x a codes c = (state-before os x a codes c, told-at os x a codes c)
+operations-are-steps os x a codes c =
+    let w : ℕ → Word = λ n. wordOf (a n) in
+    let d : AllDone os x w codes = chain-done os x a codes c in
+    (state-before os x w codes (c .made) d, told-at os x w codes (c .made) d)
 
 pub demand3-of-operations : Demand3OfOperations
-unfolding Demand3OfOperations Demand3
-demand3-of-operations W m chosen os in₁ in₂ agree x y a b f g cx cy c hc =
-    let steps : List Step = allSteps os in (
-      λ n h. demand3 W m chosen steps in₁ in₂ agree (moment os n) (moment-le os n) c hc .0 (⊎-elim
-          (λ z. inl (rw (run-tracker m in₁ steps (moment os n)) (clean os x a f cx chosen n c z)))
-          (λ z. inr (rw (run-tracker m in₂ steps (moment os n)) (clean os y b g cy chosen n c z))) h),
-      λ j k lj lk h. demand3 W m chosen steps in₁ in₂ agree k lk c hc .1 j lj (⊎-elim
-          (λ z. inl (rw (run-tracker m in₁ steps j) (barred os x a f cx chosen j c z)))
-          (λ z. inr (rw (run-tracker m in₂ steps j) (barred os y b g cy chosen j c z))) h),
-    )
+unfolding Demand3OfOperations
+demand3-of-operations W m chosen os in₁ in₂ agree x y a b f g cx cy =
+    demand3-of-done W m chosen os in₁ in₂ agree x y (λ n. wordOf (a n)) (λ n. wordOf (b n)) f g (cx .made) (chain-done os x a f cx) (cy .made) (chain-done os y b g cy)
+
+-- ---- events alone
+event-steps : (events : List Event) → allSteps (map event events) ≡ map stepOf events
+unfolding allSteps stepsOf
+event-steps [] = refl
+event-steps (e ∷ events) = ap (λ (xs : List Step). stepOf e ∷ xs) (event-steps events)
+
+event-moment : (events : List Event) (n : ℕ) → n ≤ length events → moment (map event events) n ≡ n
+unfolding moment allSteps stepsOf
+event-moment events zero l = refl
+event-moment [] (suc n) l = absurd (let y : ⊥ = omega arith in y)
+event-moment (e ∷ events) (suc n) l = ap suc (event-moment events n (omega arith))
+
+pub events-are-steps : EventsAreSteps
+unfolding EventsAreSteps
+events-are-steps events = (event-steps events, event-moment events)

@@ -3,7 +3,7 @@
 use Prim.Native.Nat.{ℕ, suc, _^_, _≤_, _<_}
 use mathlib.Core.Path.{_≡_}
 use mathlib.Core.Logic.{_⊎_, _↔_}
-use mathlib.Core.Bool.{Bool, true}
+use mathlib.Core.Bool.{Bool, true, false}
 use mathlib.Core.List.{List, [], _∷_, _++_, map}
 use lib.ListN.{getD, length, take}
 use Rattle.flow.specs.Box.{containerCount, itemCount, Rule}
@@ -98,15 +98,17 @@ Demand3OfHook =
     × ((j : ℕ) → j ≤ k → RulesLoadedForbid chosen steps a j c ⊎ RulesLoadedForbid chosen steps b j c → runAt m in₁ steps k .contents c ≡ runAt m in₂ steps k .contents c))
 
 -- ---- whole logs
--- what a kernel does: an event, or a whole log that it hands over
+-- what a kernel does: an event; a whole log that it hands over, with room for its codes; or a log of some records with too little room
 pub data Operation : Type 0 where
   event : Event → Operation
   run : List ℕ → Operation
+  short : (log : List ℕ) → 0 < length (recordsOf log) → Operation
 
--- a log stands for its records
+-- a log stands for its records, and for none where the room is too little
 unfoldable pub stepsOf : Operation → List Step
 stepsOf (event e) = stepOf e ∷ []
 stepsOf (run log) = map entry (recordsOf log)
+stepsOf (short log some) = []
 
 unfoldable pub allSteps : List Operation → List Step
 allSteps [] = []
@@ -119,11 +121,16 @@ moment os n = length (allSteps (take n os))
 abbrev pub operationAt : List Operation → ℕ → Operation
 operationAt os n = getD os n (event moves)
 
--- `Monitor::run` on a log, with room for its codes: from the monitor m to the next
-pub record AnswersRun (m : Monitor) (log codes : List ℕ) (next : Monitor) : Type 0 where
+-- of events alone, the steps are theirs, and operation n starts at moment n
+unfoldable pub EventsAreSteps : Type 0
+EventsAreSteps =
+    (events : List Event) → (allSteps (map event events) ≡ map stepOf events) × ((n : ℕ) → n ≤ length events → moment (map event events) n ≡ n)
+
+-- `Monitor::run` on a log, with room for its codes or without: from the monitor m to the next
+pub record AnswersRun (fits : Bool) (m : Monitor) (log codes : List ℕ) (next : Monitor) : Type 0 where
   pub before : List ℕ
   pub reply : Reply
-  pub room : roomFor log before ≡ true
+  pub room : roomFor log before ≡ fits
   pub answers : AnswersLog m log before (record { reply = reply; monitor = next }) codes
 
 -- what the functions promise for an operation on the monitor m: the answer, or the codes of a log, and the monitor after it
@@ -131,7 +138,8 @@ unfoldable pub AnswersOperation : Operation → Monitor → Answer → List ℕ 
 AnswersOperation (event (given bytes)) m a codes next = AnswersRecord m bytes (record { answer = a; monitor = next })
 AnswersOperation (event (called kind p d e f)) m a codes next = AnswersCall m kind p d e f (record { answer = a; monitor = next })
 AnswersOperation (event moves) m a codes next = next ≡ m
-AnswersOperation (run log) m a codes next = AnswersRun m log codes next
+AnswersOperation (run log) m a codes next = AnswersRun true m log codes next
+AnswersOperation (short log some) m a codes next = AnswersRun false m log codes next
 
 -- a chain of operations: x n is the tracker before operation n
 pub record OperationChain (os : List Operation) (x : ℕ → Monitor) (a : ℕ → Answer) (codes : ℕ → List ℕ) : Type 0 where
@@ -152,20 +160,22 @@ pub record OperationsOver (os : List Operation) : Type 0 where
 unfoldable pub OperationChainExists : Type 0
 OperationChainExists = (os : List Operation) → OperationsOver os
 
--- the words told to the steps of an operation; `allow` stands where memory moves, which is told nothing
-unfoldable pub toldTo : Event → Answer → Word
-toldTo (given bytes) a = wordOf a
-toldTo (called kind p d e f) a = wordOf a
-toldTo moves a = allow
+-- the words told to the steps of an operation: the answer w, or what the codes of a log stand for; `allow` stands where memory moves, which is
+-- told nothing
+unfoldable pub toldTo : Event → Word → Word
+toldTo (given bytes) w = w
+toldTo (called kind p d e f) w = w
+toldTo moves w = allow
 
-unfoldable pub toldBy : Operation → Answer → List ℕ → List Word
-toldBy (event e) a codes = toldTo e a ∷ []
-toldBy (run log) a codes = map wordFrom (take (length (recordsOf log)) codes)
+unfoldable pub toldBy : Operation → Word → List ℕ → List Word
+toldBy (event e) w codes = toldTo e w ∷ []
+toldBy (run log) w codes = map wordFrom (take (length (recordsOf log)) codes)
+toldBy (short log some) w codes = []
 
 -- to all steps
-unfoldable pub told : List Operation → (ℕ → Answer) → (ℕ → List ℕ) → List Word
-told [] a codes = []
-told (o ∷ os) a codes = toldBy o (a 0) (codes 0) ++ told os (λ n. a (suc n)) (λ n. codes (suc n))
+unfoldable pub told : List Operation → (ℕ → Word) → (ℕ → List ℕ) → List Word
+told [] w codes = []
+told (o ∷ os) w codes = toldBy o (w 0) (codes 0) ++ told os (λ n. w (suc n)) (λ n. codes (suc n))
 
 -- Operations are steps: before each operation the tracker is sound, and its state is that of the steps so far; and each record, also within a
 -- log, was told the answer of document 01.
@@ -174,7 +184,7 @@ OperationsAreSteps =
     (os : List Operation) (x : ℕ → Monitor) (a : ℕ → Answer) (codes : ℕ → List ℕ) → OperationChain os x a codes
     → (let steps = allSteps os in
     ((n : ℕ) → Sound (x n) × (view (x n) ≡ stateAt steps (moment os n)))
-    × ((place : ℕ) (bytes : List ℕ) → stepAt steps place ≡ entry bytes → getD (told os a codes) place allow ≡ answer (stateAt steps place) bytes))
+    × ((place : ℕ) (bytes : List ℕ) → stepAt steps place ≡ entry bytes → getD (told os (λ n. wordOf (a n)) codes) place allow ≡ answer (stateAt steps place) bytes))
 
 -- by moment j a rule that forbids container c item i was loaded: its record was told "rule"
 pub record ToldAgainst (steps : List Step) (words : List Word) (j c i : ℕ) : Type 0 where
@@ -201,5 +211,5 @@ Demand3OfOperations =
     (c : ℕ) → c < containerCount
     → ((n : ℕ) → AnswersWithout chosen (x n) c ⊎ AnswersWithout chosen (y n) c
     → runAt m in₁ steps (moment os n) .contents c ≡ runAt m in₂ steps (moment os n) .contents c)
-    × ((j k : ℕ) → j ≤ k → k ≤ length steps → RulesToldForbid chosen steps (told os a f) j c ⊎ RulesToldForbid chosen steps (told os b g) j c
+    × ((j k : ℕ) → j ≤ k → k ≤ length steps → RulesToldForbid chosen steps (told os (λ n. wordOf (a n)) f) j c ⊎ RulesToldForbid chosen steps (told os (λ n. wordOf (b n)) g) j c
     → runAt m in₁ steps k .contents c ≡ runAt m in₂ steps k .contents c))

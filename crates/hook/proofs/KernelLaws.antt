@@ -1,31 +1,33 @@
--- A code tells the very answer, and so demand 3 of the code is one of a kernel that goes by codes.
-use Prim.Native.Nat.{ℕ, zero, suc, _^_, _<_}
+-- A code tells the very answer, and so a kernel that goes by codes is told the words of document 01, and demand 3 holds of it.
+use Prim.Native.Nat.{ℕ, suc, _^_, _<_}
 use native.Mathlib.Omega.{arith}
 use mathlib.Core.Path.{_≡_, refl, sym, ap, subst, _∙_}
 use mathlib.Core.Logic.{inl, inr, ⊎-elim}
-use mathlib.Core.Bool.{Bool}
+use mathlib.Core.Bool.{Bool, true, false}
 use mathlib.Core.List.{List, map}
-use Rattle.flow.specs.Rules.{lowestBroken}
+use lib.ListN.{length, take}
+use Rattle.flow.specs.Records.{recordsOf}
 use Rattle.flow.specs.Verdicts.{outcome}
-use Rattle.flow.proofs.Keeping.{fresh-kept}
-use Rattle.flow.specs.Queries.{Reply as QueryWord}
+use Rattle.flow.specs.Queries.{Reply as QueryWord, refuse, result, itemsQuery}
 use Rattle.tracker.specs.Replies.{replyOf}
 use Rattle.decision.specs.declared.Monitor.{Monitor}
 use Rattle.decision.specs.declared.Answer.{Answer}
-use Rattle.decision.specs.declared.Answer.the-variants.{Refused, Loaded, Allow, Inhibit, Modify}
+use Rattle.decision.specs.declared.Answer.the-variants.{Allow}
 use Rattle.decision.specs.declared.Answered.{Answered}
+use Rattle.decision.specs.View.{view}
 use Rattle.decision.specs.Answers.{wordOf, Sound, AnswersRecord, AnswersCall}
-use Rattle.decision.specs.Logs.{codeOf, wordFrom, inBytes, CodesTell}
-use Rattle.decision.specs.TwoRuns.{AnswersWithout, LoadedAgainst, RulesLoadedForbid}
-use Rattle.decision.specs.Chains.{ChainOver, ChainExists, CallIsRecord, callRecord, ofBytes, Event, given, called, moves, eventAt, stepOf, MixedChain, HookIsStep, Demand3OfHook}
-use Rattle.decision.specs.Telling.{AnswersInBytes}
-use Rattle.decision.proofs.CodeLaws.{codes-tell}
-use Rattle.decision.proofs.HookLaws.{call-is-record, step-at, hook-is-step, demand3-of-hook}
-use Rattle.decision.proofs.Holding.{chain-exists}
-use Rattle.decision.proofs.Telling.{answers-in-bytes}
-use Rattle.decision.proofs.LogTelling.{answerIs}
-use Rattle.hook.specs.Codes.{Coded, Given}
-use Rattle.hook.specs.Kernels.{CodesTellAnswers, KernelChain, KernelChainExists, GivenWithout, LoadedByCode, LoadedForbidByCode, Demand3OfKernel}
+use Rattle.decision.specs.Logs.{codeOf, wordFrom, inBytes, CodesTell, roomFor, AnswersLogBy, AnswersLog}
+use Rattle.decision.specs.TwoRuns.{AnswersWithout}
+use Rattle.decision.specs.Chains.{CallIsRecord, callRecord, given, called, moves, Operation, event, run, short, stepsOf, operationAt, AnswersRun, AnswersOperation, OperationsOver, OperationChainExists, toldTo, toldBy}
+use Rattle.decision.specs.Telling.{AnswersInBytes, LogCodesTell}
+use Rattle.decision.proofs.CodeLaws.{codes-tell, code-lt}
+use Rattle.decision.proofs.HookLaws.{call-is-record}
+use Rattle.decision.proofs.Telling.{answers-in-bytes, log-codes-tell}
+use Rattle.decision.proofs.Operations.{Done, answered-by, operation-done, AllDone, demand3-of-done}
+use Rattle.decision.proofs.OperationChains.{operation-chain-exists}
+use Rattle.hook.specs.Codes.{Coded, Given, AnswersLogGiven}
+use Rattle.hook.proofs.CodeLaws.{given-by}
+use Rattle.hook.specs.Kernels.{CodesTellAnswers, RunGiven, OperationGiven, KernelChain, KernelChainExists, GivenWithout, Demand3OfKernel}
 
 -- ---- the answer that a promise hides
 module _ (P : Answered → Type 0) (n : ℕ) (m : Monitor) (bytes : (r : Answered) → P r → inBytes (r .answer)) (c : Coded P n m) where
@@ -33,114 +35,116 @@ module _ (P : Answered → Type 0) (n : ℕ) (m : Monitor) (bytes : (r : Answere
   unfolding CodesTell
   hidden = ap wordFrom (c .code) ∙ codes-tell (c .answer) (bytes (record { answer = c .answer; monitor = m }) (c .promised))
 
-answer-is : (a : Answer) → answerIs (wordOf a) ≡ a
-unfolding answerIs wordOf
-answer-is (Refused n) = refl
-answer-is (Loaded n) = refl
-answer-is Allow = refl
-answer-is (Inhibit n) = refl
-answer-is (Modify n c) = refl
-
-abbrev record-bytes : (m : Monitor) (bytes : List ℕ) (r : Answered) → AnswersRecord m bytes r → Sound m → inBytes (r .answer)
+record-hidden : (m m′ : Monitor) (bytes : List ℕ) (n : ℕ) (c : Coded (AnswersRecord m bytes) n m′) → Sound m → wordFrom n ≡ wordOf (c .answer)
 unfolding AnswersInBytes
-record-bytes = answers-in-bytes .0
+record-hidden m m′ bytes n c z = hidden (AnswersRecord m bytes) n m′ (λ r h. answers-in-bytes .0 m bytes r h z) c
 
-abbrev call-bytes : (m : Monitor) (kind p a b c : ℕ) (r : Answered) → AnswersCall m kind p a b c r → Sound m → inBytes (r .answer)
+call-hidden : (m m′ : Monitor) (kind p a b d n : ℕ) (c : Coded (AnswersCall m kind p a b d) n m′) → Sound m → wordFrom n ≡ wordOf (c .answer)
 unfolding AnswersInBytes
-call-bytes = answers-in-bytes .1
+call-hidden m m′ kind p a b d n c z = hidden (AnswersCall m kind p a b d) n m′ (λ r h. answers-in-bytes .1 m kind p a b d r h z) c
+
+-- ---- a log returns 0 where there is room for its codes, and else 13
+module _ {m m′ : Monitor} {log codes codes′ : List ℕ} {count n count′ : ℕ} (g : AnswersLogGiven m log codes count n m′ codes′ count′) where
+  by : (b : Bool) → roomFor log codes ≡ b → AnswersLogBy b m log codes (record { reply = g .reply; monitor = m′ }) codes′
+  unfolding AnswersLog
+  by b e = subst (λ (x : Bool). AnswersLogBy x m log codes (record { reply = g .reply; monitor = m′ }) codes′) e (g .promised)
+
+  given-true : roomFor log codes ≡ true → (n ≡ 0) × (count′ ≡ length (recordsOf log))
+  unfolding AnswersLogBy Given
+  given-true e = given-by (replyOf (g .reply)) (result (length (recordsOf log))) (by true e .0) count n count′ (g .given)
+
+  given-false : roomFor log codes ≡ false → n ≡ 13
+  unfolding AnswersLogBy Given
+  given-false e = given-by (replyOf (g .reply)) (refuse 13) (by false e .0) count n count′ (g .given) .0
+
+  room : n ≡ 0 → roomFor log codes ≡ true
+  room z = go (roomFor log codes) refl
+    where
+      go : (b : Bool) → roomFor log codes ≡ b → b ≡ true
+      go true e = refl
+      go false e = absurd (let h : n ≡ 13 = given-false e in let y : ⊥ = omega arith in y)
+
+  no-room : n ≡ 13 → roomFor log codes ≡ false
+  no-room z = go (roomFor log codes) refl
+    where
+      go : (b : Bool) → roomFor log codes ≡ b → b ≡ false
+      go true e = absurd (let h : n ≡ 0 = given-true e .0 in let y : ⊥ = omega arith in y)
+      go false e = refl
 
 pub codes-tell-answers : CodesTellAnswers
-unfolding CodesTellAnswers CallIsRecord outcome
+unfolding CodesTellAnswers CallIsRecord outcome AnswersLogBy LogCodesTell
 codes-tell-answers = (
-  λ m m′ bytes n c z.
-      record { code = c .code ∙ ap codeOf (c .promised .answer z); word = hidden (AnswersRecord m bytes) n m′ (λ r h. record-bytes m bytes r h z) c ∙ c .promised .answer z },
+  λ m m′ bytes n c z. record { code = c .code ∙ ap codeOf (c .promised .answer z); word = record-hidden m m′ bytes n c z ∙ c .promised .answer z },
   λ m m′ kind p a b d n c z. let r : AnswersRecord m (callRecord kind p a b d) (record { answer = c .answer; monitor = m′ }) = call-is-record m kind p a b d (record { answer = c .answer; monitor = m′ }) .0 (c .promised) in
-      record { code = c .code ∙ ap codeOf (r .answer z); word = hidden (AnswersCall m kind p a b d) n m′ (λ r h. call-bytes m kind p a b d r h z) c ∙ r .answer z },
+      record { code = c .code ∙ ap codeOf (r .answer z); word = call-hidden m m′ kind p a b d n c z ∙ r .answer z },
+  λ m m′ log codes codes′ count count′ g z.
+      let e : roomFor log codes ≡ true = room g refl in
+      let front = ap (λ (k : ℕ). take k codes′) (given-true g e .1) ∙ by g true e .3 z .0 in
+      record { codes = front; words = ap (map wordFrom) front ∙ log-codes-tell m log },
 )
 
--- ---- a kernel's chain is one of answers
--- the promise, of the answer that the code tells
-told : (P : Answered → Type 0) (n : ℕ) (m : Monitor) → ((r : Answered) → P r → inBytes (r .answer)) → Coded P n m → P (record { answer = answerIs (wordFrom n); monitor = m })
-told P n m bytes c = subst (λ (a : Answer). P (record { answer = a; monitor = m })) (sym (ap answerIs (hidden P n m bytes c) ∙ answer-is (c .answer))) (c .promised)
+-- ---- each operation is done as the definitions have it
+run-answers : {m next : Monitor} {log codes : List ℕ} {n : ℕ} (b : Bool) (g : RunGiven m log n codes next) → roomFor log (g .before) ≡ b → AnswersRun b m log codes next
+run-answers b g e = record { before = g .before; reply = g .answers .reply; room = e; answers = g .answers .promised }
 
-module _ (events : List Event) (x : ℕ → Monitor) (codes : ℕ → ℕ) where
-  abbrev answers : ℕ → Answer
-  answers n = answerIs (wordFrom (codes n))
+kernel-done : (o : Operation) (m : Monitor) (n : ℕ) (codes : List ℕ) (next : Monitor) → OperationGiven o m n codes next → Sound m → Done m (stepsOf o) (toldBy o (wordFrom n) codes) next
+unfolding OperationGiven AnswersOperation toldBy toldTo
+kernel-done (event (given bytes)) m n codes next g s = rw (record-hidden m next bytes n g s) (operation-done (event (given bytes)) m (g .answer) codes next (g .promised) s)
+kernel-done (event (called kind p d e f)) m n codes next g s =
+    rw (call-hidden m next kind p d e f n g s) (operation-done (event (called kind p d e f)) m (g .answer) codes next (g .promised) s)
+kernel-done (event moves) m n codes next g s = operation-done (event moves) m Allow codes next g s
+kernel-done (run log) m n codes next g s = operation-done (run log) m Allow codes next (run-answers true (g .1) (room (g .1 .answers) (g .0))) s
+kernel-done (short log some) m n codes next g s = operation-done (short log some) m Allow codes next (run-answers false (g .1) (no-room (g .1 .answers) (g .0))) s
 
-  -- every monitor of the chain is sound
-  next-sound : KernelChain events x codes → (n : ℕ) (e : Event) → eventAt events n ≡ e → Sound (x n) → Sound (x (suc n))
-  next-sound c n (given bytes) h z = c .answers n bytes h .promised .sound z
-  next-sound c n (called kind p d e f) h z = c .calls n kind p d e f h .promised .sound z
-  next-sound c n moves h z = subst Sound (sym (c .rests n h)) z
-
-  kernel-sound : KernelChain events x codes → (k : ℕ) → Sound (x k)
-  unfolding Sound
-  kernel-sound c zero = ap lowestBroken (c .made) ∙ fresh-kept .unbroken
-  kernel-sound c (suc k) = next-sound c k (eventAt events k) refl (kernel-sound c k)
-
-  kernel-mixed : KernelChain events x codes → MixedChain events x answers
-  kernel-mixed c =
-      record {
-        made = c .made;
-        answers = λ n bytes h. told (AnswersRecord (x n) bytes) (codes n) (x (suc n)) (λ r g. record-bytes (x n) bytes r g (kernel-sound c n)) (c .answers n bytes h);
-        calls = λ n kind p d e f h. told (AnswersCall (x n) kind p d e f) (codes n) (x (suc n)) (λ r g. call-bytes (x n) kind p d e f r g (kernel-sound c n)) (c .calls n kind p d e f h);
-        rests = c .rests;
-      }
-
-  loaded : (j c i : ℕ) → LoadedByCode events codes j c i → LoadedAgainst (map stepOf events) answers j c i
-  unfolding stepOf answerIs
-  loaded j c i l =
-      record {
-        place = l .place;
-        earlier = l .earlier;
-        bytes = l .bytes;
-        is-record = step-at events (l .place) ∙ ap stepOf (l .is-record);
-        number = l .number;
-        answered = ap answerIs (l .answered);
-        loaded = l .loaded;
-        is-rule = l .is-rule;
-        forbidden = l .forbidden;
-      }
-
-  forbid-loaded : (chosen : ℕ → Bool) (j c : ℕ) → LoadedForbidByCode chosen events codes j c → RulesLoadedForbid chosen (map stepOf events) answers j c
-  unfolding LoadedForbidByCode RulesLoadedForbid
-  forbid-loaded chosen j c h i l e = loaded j c i (h i l e)
+chain-done : (os : List Operation) (x : ℕ → Monitor) (a : ℕ → ℕ) (codes : ℕ → List ℕ) → KernelChain os x a codes → AllDone os x (λ n. wordFrom (a n)) codes
+chain-done os x a codes c n s = kernel-done (operationAt os n) (x n) (a n) (codes n) (x (suc n)) (c .answers n) s
 
 without : (chosen : ℕ → Bool) (m : Monitor) (c : ℕ) → GivenWithout chosen m c → AnswersWithout chosen m c
 unfolding GivenWithout AnswersWithout replyOf Given
-without chosen m c h w e = h 0 w (subst (λ (q : QueryWord). Given q 0 0 w) e (refl, refl))
+without chosen m c h w e = h 0 w (given-by (result w) (itemsQuery (view m) c) e 0 0 w (refl, refl))
 
 pub demand3-of-kernel : Demand3OfKernel
-unfolding Demand3OfKernel Demand3OfHook
-demand3-of-kernel W m chosen events in₁ in₂ agree x y a b cx cy k l c hc =
-    let d = demand3-of-hook W m chosen events in₁ in₂ agree x y (answers events x a) (answers events y b) (kernel-mixed events x a cx) (kernel-mixed events y b cy) k l c hc in (
-      λ h. d .0 (⊎-elim (λ g. inl (without chosen (x k) c g)) (λ g. inr (without chosen (y k) c g)) h),
-      λ j lj h. d .1 j lj (⊎-elim (λ g. inl (forbid-loaded events x a chosen j c g)) (λ g. inr (forbid-loaded events y b chosen j c g)) h),
+unfolding Demand3OfKernel
+demand3-of-kernel W m chosen os in₁ in₂ agree x y a b f g cx cy c hc =
+    let d = demand3-of-done W m chosen os in₁ in₂ agree x y (λ n. wordFrom (a n)) (λ n. wordFrom (b n)) f g (cx .made) (chain-done os x a f cx) (cy .made) (chain-done os y b g cy) c hc in (
+      λ n h. d .0 n (⊎-elim (λ z. inl (without chosen (x n) c z)) (λ z. inr (without chosen (y n) c z)) h),
+      d .1,
     )
 
--- ---- and there is one
-code-lt : (a : Answer) → inBytes a → codeOf (wordOf a) < 2 ^ 32
-unfolding inBytes codeOf wordOf
-code-lt (Refused n) h = omega arith
-code-lt (Loaded n) h = omega arith
-code-lt Allow h = omega arith
-code-lt (Inhibit n) h = omega arith
-code-lt (Modify n c) h = omega arith
+-- ---- and there is a chain
+-- what the function for an operation returns where `Monitor` answers a
+unfoldable numberOf : Operation → Answer → ℕ
+numberOf (event e) a = codeOf (wordOf a)
+numberOf (run log) a = 0
+numberOf (short log some) a = 13
+
+number-lt : (o : Operation) (a : Answer) → inBytes a → numberOf o a < 2 ^ 32
+unfolding numberOf
+number-lt (event e) a h = code-lt a h
+number-lt (run log) a h = omega arith
+number-lt (short log some) a h = omega arith
+
+run-given : {b : Bool} {m next : Monitor} {log codes : List ℕ} (n counted : ℕ) (w : QueryWord) (h : AnswersRun b m log codes next) → replyOf (h .reply) ≡ w → Given w 0 n counted → RunGiven m log n codes next
+run-given n counted w h e g = record { before = h .before; count = 0; counted = counted; answers = record { reply = h .reply; given = given-by w (replyOf (h .reply)) (sym e) 0 n counted g; promised = h .answers } }
+
+operation-given : (o : Operation) (m : Monitor) (a : Answer) (codes : List ℕ) (next : Monitor) → AnswersOperation o m a codes next → OperationGiven o m (numberOf o a) codes next
+unfolding AnswersOperation OperationGiven numberOf AnswersLogBy Given
+operation-given (event (given bytes)) m a codes next h = record { answer = a; code = refl; promised = h }
+operation-given (event (called kind p d e f)) m a codes next h = record { answer = a; code = refl; promised = h }
+operation-given (event moves) m a codes next h = h
+operation-given (run log) m a codes next h = (refl, run-given 0 (length (recordsOf log)) (result (length (recordsOf log))) h (answered-by h .0) (refl, refl))
+operation-given (short log some) m a codes next h = (refl, run-given 13 0 (refuse 13) h (answered-by h .0) (refl, refl))
 
 pub kernel-chain-exists : KernelChainExists
-unfolding KernelChainExists ChainExists HookIsStep
-kernel-chain-exists events =
-    let o : ChainOver (map stepOf events) = chain-exists (map stepOf events) in
-    let c : MixedChain events (o .x) (o .a) = hook-is-step events (o .x) (o .a) .1 (o .chain) in
+unfolding KernelChainExists OperationChainExists
+kernel-chain-exists os =
+    let o : OperationsOver os = operation-chain-exists os in
     record {
       x = o .x;
-      codes = λ n. codeOf (wordOf (o .a n));
-      chain = record {
-        made = c .made;
-        answers = λ n bytes h. record { answer = o .a n; code = refl; promised = c .answers n bytes h };
-        calls = λ n kind p d e f h. record { answer = o .a n; code = refl; promised = c .calls n kind p d e f h };
-        rests = c .rests;
-      };
-      told = λ n. code-lt (o .a n) (o .told n);
-      holdable = λ h. o .holdable (λ n. subst ofBytes (sym (step-at events n)) (h n));
+      returned = λ n. numberOf (operationAt os n) (o .a n);
+      codes = o .codes;
+      chain = record { made = o .chain .made; answers = λ n. operation-given (operationAt os n) (o .x n) (o .a n) (o .codes n) (o .x (suc n)) (o .chain .answers n) };
+      told = λ n. number-lt (operationAt os n) (o .a n) (o .told n);
+      coded = o .coded;
+      holdable = o .holdable;
     }

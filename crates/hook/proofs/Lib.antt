@@ -1,2 +1,4 @@
 pub mod CodeLaws
 pub mod KernelLaws
+pub mod Lending
+pub mod MonitorFields

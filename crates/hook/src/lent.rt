@@ -32,21 +32,10 @@ pub fn call_lent(
     names: &mut [u8; 128],
     sets: &[u64; 32],
     fields: &[u8; 129],
-    kind: u8,
-    p: u8,
-    a: u8,
-    b: u8,
-    c: u8,
+    q: Call,
 ) -> u32
-    ensures { λ r. ⌜ Coded (AnswersCall (monitorBefore words descriptors names sets fields) kind p a b c) r (monitorAfter words descriptors names sets fields) ⌝ }
+    ensures { λ r. ⌜ Coded (AnswersCall (monitorBefore words descriptors names sets fields) (q .kind) (q .process) (q .a) (q .b) (q .c)) r (monitorAfter words descriptors names sets fields) ⌝ }
 {
-    let q = Call {
-        kind,
-        process: p,
-        a,
-        b,
-        c,
-    };
     let answer = call_in(words, descriptors, names, sets, fields, q);
     code(answer)
 }

@@ -15,6 +15,7 @@ use lent::holders_lent;
 use lent::items_lent;
 use lent::run_lent;
 use logreader::end_after;
+use tracker::Call;
 
 // Makes a fresh monitor without rules.
 #[no_mangle]
@@ -41,11 +42,13 @@ pub extern "C" fn pomtvia_call(m: &mut Monitor, kind: u8, p: u8, a: u8, b: u8, c
         &mut m.names,
         &m.sets,
         &m.fields,
-        kind,
-        p,
-        a,
-        b,
-        c,
+        Call {
+            kind,
+            process: p,
+            a,
+            b,
+            c,
+        },
     )
 }
 
@@ -133,35 +136,31 @@ pub struct Settled {
     pub monitor: Monitor,
 }
 
-// The hook's work, by value.
-fn on_value(m: Monitor, kind: u8, p: u8, a: u8, b: u8, c: u8) -> Settled
+// The hook's work, by value. Of a struct by value one field is lent at a time: the largest, while the others are copied out.
+fn on_value(mut m: Monitor, kind: u8, p: u8, a: u8, b: u8, c: u8) -> Settled
     ensures { λ r. ⌜ Coded (AnswersCall m kind p a b c) (r .code) (r .monitor) ⌝ }
 {
-    let mut words = m.words;
     let mut descriptors = m.descriptors;
     let mut names = m.names;
     let sets = m.sets;
     let fields = m.fields;
     let code = call_lent(
-        &mut words,
+        &mut m.words,
         &mut descriptors,
         &mut names,
         &sets,
         &fields,
-        kind,
-        p,
-        a,
-        b,
-        c,
+        Call {
+            kind,
+            process: p,
+            a,
+            b,
+            c,
+        },
     );
-    let monitor = Monitor {
-        words,
-        descriptors,
-        names,
-        sets,
-        fields,
-    };
-    Settled { code, monitor }
+    m.descriptors = descriptors;
+    m.names = names;
+    Settled { code, monitor: m }
 }
 
 // What a call gets, as its code. A refused or inhibited call leaves the monitor as it was.

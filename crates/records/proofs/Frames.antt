@@ -2,17 +2,17 @@
 use Prim.Native.Nat.{ℕ, zero, suc, _+_, _≤_}
 use native.Mathlib.Omega.{arith}
 use mathlib.Core.Path.{_≡_, refl, sym, ap, _∙_}
-use mathlib.Core.Bool.{Bool, true, false, not}
+use mathlib.Core.Bool.{Bool, false, not}
 use mathlib.Core.List.{List, [], _∷_}
 use mathlib.Core.Option.{none}
 use lib.Dec.{eqb}
 use lib.ListN.{getD, length, take, drop}
 use lib.Seq.{drop-cons}
-use borrow.Author.Tests.{ltb-false, not-false, eqb-true, eqb-false, eq-eqb, ne-eqb}
+use borrow.Author.Tests.{ltb-false, not-false, eqb-true, ne-eqb}
 use Rattle.flow.specs.Lists.{tableFrom, _⇒_, firstThat, refusalFrom}
-use Rattle.flow.specs.Box.{Condition, forbid, separate, confine, Rule}
+use Rattle.flow.specs.Box.{forbid, separate, confine}
 use Rattle.flow.specs.Records.{byteAt, tagOf, callTag, forbidTag, separateTag, statedLength, recordLength, valueOf, cutShort, knownTag, tagLength, wrongLength, callFrom, callIn, conditionOf, numberFrom, setIn, ruleWith, ruleIn, unreadable, aCall, aRule, frameTests, contentOf, readingBy, reading}
-use Rattle.flow.proofs.Bools.{chosen-l, chosen-r}
+use Rattle.flow.proofs.Bools.{chosen-r}
 use Rattle.flow.proofs.TableLaws.{AllFalse, all-false}
 
 -- the three tests, each by its value
@@ -58,39 +58,22 @@ module _ (bytes : List ℕ) (whole : firstThat (frameTests bytes) ≡ none) wher
       let fits : 3 + statedLength bytes ≤ length bytes = ltb-false _ _ (frame .0) in
       rw stated (part n 3 bytes (omega arith))
 
-  reads-content : reading bytes ≡ contentOf bytes
-  unfolding reading readingBy
-  reads-content = ap (readingBy bytes) whole
-
   pub call-read : tagOf bytes ≡ callTag → reading bytes ≡ aCall (callFrom (byteAt bytes 3) (byteAt bytes 4) (byteAt bytes 5) (byteAt bytes 6) (byteAt bytes 7))
-  unfolding contentOf callIn tableFrom tagLength byteAt
-  call-read e = reads-content ∙ chosen-l (eqb (tagOf bytes) callTag) _ _ (eq-eqb (tagOf bytes) callTag e) ∙ ap (λ (v : List ℕ). aCall (callIn v)) (value 5 (rw e))
-
-  -- a rule, once its tag is told
-  rule-read : (n : ℕ) (f : List ℕ → Rule) → (tagOf bytes ≡ callTag → ⊥) → n ≡ tagLength (tagOf bytes) → ruleIn (tagOf bytes) (valueOf bytes) ≡ f (valueOf bytes)
-      → reading bytes ≡ aRule (f (tableFrom n 3 (byteAt bytes)))
-  unfolding contentOf
-  rule-read n f h l e = reads-content ∙ chosen-r (eqb (tagOf bytes) callTag) _ _ (ne-eqb (tagOf bytes) callTag h) ∙ ap aRule (e ∙ ap f (value n l))
-
-  -- a tag that isn't a call's
-  other : (n : ℕ) → tagOf bytes ≡ n → eqb n callTag ≡ false → tagOf bytes ≡ callTag → ⊥
-  other n e d q = eqb-false n callTag d (sym e ∙ q)
+  unfolding reading readingBy contentOf callIn tableFrom tagLength byteAt
+  call-read e = rw (whole, contentOf, e, value 5 (rw e))
 
   pub forbid-read : tagOf bytes ≡ forbidTag
       → reading bytes ≡ aRule (record { condition = forbid (byteAt bytes 3) (numberFrom 0 (tableFrom 8 4 (byteAt bytes))); action = byteAt bytes 12; substitute = byteAt bytes 13 })
-  unfolding ruleIn conditionOf setIn ruleWith tableFrom tagLength byteAt
-  forbid-read e = rule-read 11 (λ v. ruleWith (forbid (byteAt v 0) (setIn v)) v 9) (other forbidTag e refl) (rw e) (rw e)
+  unfolding reading readingBy contentOf ruleIn conditionOf setIn ruleWith tableFrom tagLength byteAt
+  forbid-read e = rw (whole, contentOf, e, value 11 (rw e), e)
 
   pub separate-read : tagOf bytes ≡ separateTag
       → reading bytes ≡ aRule (record { condition = separate (byteAt bytes 3) (byteAt bytes 4); action = byteAt bytes 5; substitute = byteAt bytes 6 })
-  unfolding ruleIn conditionOf ruleWith tableFrom tagLength byteAt
-  separate-read e = rule-read 4 (λ v. ruleWith (separate (byteAt v 0) (byteAt v 1)) v 2) (other separateTag e refl) (rw e) (rw e)
+  unfolding reading readingBy contentOf ruleIn conditionOf ruleWith tableFrom tagLength byteAt
+  separate-read e = rw (whole, contentOf, e, value 4 (rw e), e)
 
   pub confine-read : (tagOf bytes ≡ callTag → ⊥) → (tagOf bytes ≡ forbidTag → ⊥) → (tagOf bytes ≡ separateTag → ⊥)
       → reading bytes ≡ aRule (record { condition = confine (byteAt bytes 3) (numberFrom 0 (tableFrom 8 4 (byteAt bytes))); action = byteAt bytes 12; substitute = byteAt bytes 13 })
-  unfolding ruleIn conditionOf setIn ruleWith tableFrom byteAt
+  unfolding reading readingBy contentOf ruleIn conditionOf setIn ruleWith tableFrom byteAt
   confine-read h k m =
-      rule-read 11 (λ v. ruleWith (confine (byteAt v 0) (setIn v)) v 9) h (length-other (tagOf bytes) h m)
-      (chosen-r (eqb (tagOf bytes) separateTag) _ _ (ne-eqb (tagOf bytes) separateTag m)
-      ∙ ap (λ (c : Condition). ruleWith c (valueOf bytes) 9)
-      (chosen-r (eqb (tagOf bytes) forbidTag) _ _ (ne-eqb (tagOf bytes) forbidTag k) ∙ chosen-r (eqb (tagOf bytes) separateTag) _ _ (ne-eqb (tagOf bytes) separateTag m)))
+      rw (whole, contentOf, ne-eqb (tagOf bytes) callTag h, ruleIn, ne-eqb (tagOf bytes) separateTag m, conditionOf, ne-eqb (tagOf bytes) forbidTag k, ne-eqb (tagOf bytes) separateTag m, value 11 (length-other (tagOf bytes) h m))

@@ -1,24 +1,23 @@
 -- Whether a plan breaks a condition anew, by the sets that get its items.
-use Prim.Native.Nat.{ℕ, _+_}
+use Prim.Native.Nat.{ℕ, _+_, _-_, _%_, _^_, _<_}
 use native.Mathlib.Omega.{arith}
 use mathlib.Core.Path.{_≡_, refl, sym, ap, ap₂, _∙_}
-use mathlib.Core.Bool.{Bool, true, false, not, _&&_, _||_}
+use mathlib.Core.Bool.{Bool, false, not, _&&_, _||_, and-false}
 use mathlib.Core.List.{List}
 use lib.Bits.{or-zero-r, and-zero-l}
 use lib.Dec.{eqb}
-use borrow.Author.Tests.{eq-eqb, ne-eqb}
 use Rattle.sets.specs.Sets.{has, _∪_, _∩_}
 use Rattle.sets.proofs.Members.{union-has, none-has}
 use Rattle.flow.specs.Box.{Condition, forbid, separate, confine}
 use Rattle.flow.specs.Links.{meets}
 use Rattle.flow.specs.Records.{conditionOf}
-use Rattle.flow.proofs.Bools.{or-false-l, or-false-r, or-false-i, chosen-r}
+use Rattle.flow.proofs.Bools.{or-false-l, or-false-r, chosen-r}
 use Rattle.flow.proofs.TableLaws.{none-below}
 use Rattle.store.specs.declared.Plan.{Plan}
-use Rattle.rules.specs.Stored.{ruleAt, countOf}
-use Rattle.rules.specs.Judging.{share, gets, keeps, someKeeps, breaksAnew, touches, firstAnew}
+use Rattle.rules.specs.Stored.{conditionAt, countOf}
+use Rattle.rules.specs.Judging.{share, gets, keeps, someKeeps, breaksAnew, touches, firstFrom, firstAnew, breaksRule, anewFrom, Judged}
 use Rattle.rules.proofs.Searching.{first-none}
-use Rattle.rules.proofs.ConditionLaws.{forbids-by, confines-by}
+use Rattle.rules.proofs.ConditionLaws.{forbids-by, confines-by, touches-is, touches-rest}
 
 -- ---- x gets the item
 module _ (items : List ℕ) (plan : Plan) (tag item set x : ℕ) (e : x ≡ gets plan item) where
@@ -29,16 +28,6 @@ module _ (items : List ℕ) (plan : Plan) (tag item set x : ℕ) (e : x ≡ gets
   pub confine-anew : (tag ≡ 0x12 → ⊥) → (tag ≡ 0x11 → ⊥) → not (eqb (x ∩ set) x) ≡ breaksAnew items plan (conditionOf tag item set)
   unfolding breaksAnew
   confine-anew h k = ap (λ (y : ℕ). not (eqb (y ∩ set) y)) e ∙ sym (ap (breaksAnew items plan) (confines-by tag item set h k))
-
--- ---- x gets item i, y gets item j
-module _ (items : List ℕ) (plan : Plan) (i j x y : ℕ) (e : x ≡ gets plan i) (f : y ≡ gets plan j) where
-  pub separate-both : (x ∩ y ≡ 0 → ⊥) → true ≡ breaksAnew items plan (separate i j)
-  unfolding breaksAnew meets
-  separate-both h = sym (rw (sym e, sym f, ne-eqb (x ∩ y) 0 h) refl)
-
-  pub separate-one : x ∩ y ≡ 0 → (a b : Bool) → a ≡ someKeeps items plan x j → b ≡ someKeeps items plan y i → (a || b) ≡ breaksAnew items plan (separate i j)
-  unfolding breaksAnew meets
-  separate-one h a b p q = sym (rw (sym e, sym f, eq-eqb (x ∩ y) 0 h, sym p, sym q) refl)
 
 -- ---- what is not given breaks nothing
 no-share : (x i to : ℕ) → has x i ≡ false → share x i to ≡ 0
@@ -72,15 +61,23 @@ module _ (plan : Plan) where
       (ap₂ _||_ (none-keeps items j) (none-keeps items i))
   untouched items (confine i x) e = rw (no-gets i e, none-meet x) refl
 
-  none-touched : gained ≡ 0 → (c : Condition) → touches gained c ≡ false
-  unfolding touches
-  none-touched e (forbid i x) = rw e (none-has i)
-  none-touched e (separate i j) = rw e (or-false-i (has 0 i) (has 0 j) (none-has i) (none-has j))
-  none-touched e (confine i x) = rw e (none-has i)
+  -- by the rests of its numbers by 64
+  pub far : (items : List ℕ) (tag item set : ℕ) → gained < 2 ^ 64 → touches gained (conditionOf tag (item % 64) (set % 64)) ≡ false
+      → breaksAnew items plan (conditionOf tag item set) ≡ false
+  far items tag item set h e = untouched items (conditionOf tag item set) (touches-rest tag item set gained h e)
 
-  pub nothing-given : gained ≡ 0 → (items sets fields : List ℕ) (n : ℕ) → n ≡ countOf fields → n ≡ firstAnew items plan sets fields
-  unfolding firstAnew
-  nothing-given e items sets fields n f =
-      f
-      ∙ sym (first-none (countOf fields) 0 _ (λ k. let c = ruleAt sets fields k .condition in untouched items c (none-touched e c))
-      ∙ (let z : 0 + countOf fields ≡ countOf fields = omega arith in z))
+  none-touched : gained ≡ 0 → (tag item set : ℕ) → touches gained (conditionOf tag item set) ≡ false
+  none-touched e tag item set = touches-is tag item set gained ∙ rw (e, none-has item, none-has set) (and-false (eqb tag 0x12))
+
+  pub nothing-given : gained ≡ 0 → (items sets fields : List ℕ) → countOf fields ≡ anewFrom items plan sets fields 0
+  unfolding conditionAt
+  nothing-given e items sets fields =
+      sym (first-none (countOf fields - 0) 0 _ (λ k. untouched items _ (none-touched e _ _ _))
+      ∙ (let z : 0 + (countOf fields - 0) ≡ countOf fields = omega arith in z))
+
+-- judging from rule 0 on
+pub judges : (items : List ℕ) (plan : Plan) (sets fields : List ℕ) (r : ℕ) → plan .to < 2 ^ 64 → plan .to2 < 2 ^ 64
+    → r ≡ anewFrom items plan sets fields 0 → Judged items plan sets fields r
+unfolding firstAnew
+judges items plan sets fields r h k e =
+    record { small = h; small2 = k; number = e ∙ ap (λ (n : ℕ). firstFrom n 0 (breaksRule items plan sets fields)) (let z : countOf fields - 0 ≡ countOf fields = omega arith in z) }

@@ -1,18 +1,24 @@
 -- The condition of a tag, and whether the items of a state break it.
-use Prim.Native.Nat.{ℕ}
+use Prim.Native.Nat.{ℕ, _%_, _^_, _<_}
 use mathlib.Core.Path.{_≡_, refl, sym, ap, _∙_}
 use native.Mathlib.Omega.{arith}
-use mathlib.Core.Bool.{true, false}
+use native.Mathlib.Nat.{mod-eq-of-lt}
+use mathlib.Core.Bool.{false, _&&_, _||_, or-false}
 use lib.Dec.{eqb, ltb}
 use borrow.Author.Tests.{eqb-true, eqb-false, eq-eqb, ne-eqb}
 use Rattle.sets.specs.Sets.{has}
+use Rattle.sets.proofs.Members.{has-lt}
 use Rattle.flow.specs.Box.{Condition, forbid, separate, confine, Rule, State, itemsOf, holds}
 use Rattle.flow.specs.Lists.{someBelow}
 use Rattle.flow.specs.Rules.{breaks, broken}
 use Rattle.flow.specs.Records.{conditionOf}
 use Rattle.flow.specs.Refusals.{itemsFit, sameItems}
-use Rattle.flow.proofs.Bools.{by, chosen-l, chosen-r}
+use Rattle.flow.proofs.Bools.{by, no-both, and-false-r, or-false-l, or-false-r, or-false-i, chosen-l, chosen-r}
 use Rattle.rules.specs.Judging.{touches, breaksWith, brokenIn}
+
+-- a member stands for its rest by 64
+rest-has : (x i : ℕ) → x < 2 ^ 64 → has x (i % 64) ≡ false → has x i ≡ false
+rest-has x i h e = by (has x i) (λ k. no-both (ap (has x) (mod-eq-of-lt (has-lt x i h k)) ∙ k) e) (λ k. k)
 
 module _ (tag item set : ℕ) where
   pub forbids-by : tag ≡ 0x11 → conditionOf tag item set ≡ forbid item set
@@ -40,21 +46,22 @@ module _ (tag item set : ℕ) where
   unfolding sameItems
   same-items-by-set e = by-set (λ c. false ≡ sameItems c) e refl refl
 
-  -- by the items of a set x
-  pub touches-first : (x : ℕ) → has x item ≡ true → true ≡ touches x (conditionOf tag item set)
+  -- it speaks of an item of the set x
+  pub touches-is : (x : ℕ) → touches x (conditionOf tag item set) ≡ (has x item || (eqb tag 0x12 && has x set))
   unfolding touches
-  touches-first x h =
-      by (eqb tag 0x12)
-      (λ q. sym (ap (touches x) (separates-by (eqb-true tag 0x12 q)) ∙ rw h refl))
-      (λ q. by-set (λ c. true ≡ touches x c) (eqb-false tag 0x12 q) (sym h) (sym h))
+  touches-is x =
+      by (eqb tag 0x12) (λ q. ap (touches x) (separates-by (eqb-true tag 0x12 q)) ∙ rw q refl)
+      (λ q. rw q (by-set (λ c. touches x c ≡ (has x item || false)) (eqb-false tag 0x12 q) (sym (or-false (has x item))) (sym (or-false (has x item)))))
 
-  pub touches-second : (x : ℕ) → has x item ≡ false → tag ≡ 0x12 → has x set ≡ touches x (conditionOf tag item set)
-  unfolding touches
-  touches-second x h e = sym (ap (touches x) (separates-by e) ∙ rw h refl)
-
-  pub touches-none : (x : ℕ) → has x item ≡ false → (tag ≡ 0x12 → ⊥) → false ≡ touches x (conditionOf tag item set)
-  unfolding touches
-  touches-none x h e = by-set (λ c. false ≡ touches x c) e (sym h) (sym h)
+-- where it speaks of none by the rests of its numbers by 64
+pub touches-rest : (tag item set x : ℕ) → x < 2 ^ 64 → touches x (conditionOf tag (item % 64) (set % 64)) ≡ false → touches x (conditionOf tag item set) ≡ false
+touches-rest tag item set x h e =
+    let w = sym (touches-is tag (item % 64) (set % 64) x) ∙ e in
+    touches-is tag item set x
+    ∙ or-false-i (has x item) _ (rest-has x item h (or-false-l _ (eqb tag 0x12 && has x (set % 64)) w))
+    (by (eqb tag 0x12)
+    (λ q. rw q (rest-has x set h (and-false-r (eqb tag 0x12) _ q (or-false-r (has x (item % 64)) _ w))))
+    (λ q. rw q refl))
 
 -- a state breaks a rule where its items do
 some-break : (s : State) (c : Condition) → brokenIn (s .items) c ≡ someBelow 64 (λ v. breaks s c v)

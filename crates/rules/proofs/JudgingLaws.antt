@@ -2,30 +2,23 @@
 use Prim.Native.Nat.{ℕ, zero, suc, _+_, _^_, _≤_, _<_}
 use native.Mathlib.Omega.{arith}
 use mathlib.Core.Path.{_≡_, refl, sym, ap, ap₂, _∙_}
-use mathlib.Core.Bool.{Bool, true, false, not, _&&_, _||_, and-comm, or-false}
+use mathlib.Core.Bool.{Bool, true, false, not, _&&_, _||_, and-comm, and-false, or-false}
 use mathlib.Core.List.{List}
 use mathlib.Core.Option.{none}
 use Rattle.sets.specs.Sets.{has, _∪_}
-use Rattle.sets.proofs.Members.{union-has, union-lt, none-has}
+use Rattle.sets.proofs.Members.{union-has}
 use Rattle.flow.specs.Lists.{tableFrom, table, someBelow}
 use Rattle.flow.specs.Box.{Condition, forbid, separate, confine, Rule, State, itemsOf, holds}
 use Rattle.flow.specs.Rules.{breaks, broken, firstBroken, lowestBroken}
-use Rattle.flow.proofs.Bools.{by, no-both, or-elim, or-l, or-r, and-l, and-r, and-i, and-false-l, choice, chosen-l, chosen-r}
+use Rattle.flow.proofs.Bools.{by, no-both, or-elim, or-l, or-r, and-l, and-r, and-i, and-false-l, chosen-l, chosen-r}
 use Rattle.flow.proofs.TableLaws.{none-of}
 use Rattle.flow.proofs.Judging.{first-whole}
 use Rattle.store.specs.declared.Plan.{Plan}
 use Rattle.rules.specs.Stored.{ruleAt, countOf, rulesOf}
-use Rattle.rules.specs.Judging.{share, gets, keeps, someKeeps, Planned, breaksAnew, firstFrom, firstAnew, found}
+use Rattle.rules.specs.Judging.{gets, keeps, someKeeps, Planned, breaksAnew, firstFrom, firstAnew, found}
+use Rattle.rules.proofs.PlanLaws.{gets-has, gets-lt}
 use Rattle.rules.proofs.SetLaws.{same, some-same, some-or, meets-some, outside-some}
 use Rattle.rules.proofs.Searching.{first-le, first-end, first-hit, first-miss, found-none, found-some}
-
-share-has : (x i to v : ℕ) → has (share x i to) v ≡ true → has to v ≡ true
-unfolding share
-share-has x i to v = choice (λ (y : ℕ). has y v ≡ true → has to v ≡ true) (has x i) to 0 (λ e h. h) (λ e h. no-both h (none-has v))
-
-share-lt : (x i to : ℕ) → to < 2 ^ 64 → share x i to < 2 ^ 64
-unfolding share
-share-lt x i to h = choice (λ (y : ℕ). y < 2 ^ 64) (has x i) to 0 (λ e. h) (λ e. omega arith)
 
 module _ (s t : State) (plan : Plan) (p : Planned s t plan) where
   -- container v gets item i; it keeps it
@@ -35,19 +28,15 @@ module _ (s t : State) (plan : Plan) (p : Planned s t plan) where
   abbrev stays : ℕ → ℕ → Bool
   stays v i = keeps (s .items) plan v i
 
-  gets-lt : (i : ℕ) → gets plan i < 2 ^ 64
-  unfolding gets
-  gets-lt i = union-lt _ _ (share-lt _ i _ (p .small)) (share-lt _ i _ (p .small2))
+  small : (i : ℕ) → gets plan i < 2 ^ 64
+  small = gets-lt plan (p .small) (p .small2)
 
   -- what gets an item is in `to` or in `to2`
   got-in : (v i : ℕ) → got v i ≡ true → has (plan .to ∪ plan .to2) v ≡ true
-  unfolding gets
   got-in v i h =
-      let x = share (plan .given) i (plan .to) in
-      let y = share (plan .given2) i (plan .to2) in
-      let first : has x v ≡ true → (has (plan .to) v || has (plan .to2) v) ≡ true = λ e. or-l (has (plan .to) v) _ (share-has (plan .given) i (plan .to) v e) in
-      let second : has y v ≡ true → (has (plan .to) v || has (plan .to2) v) ≡ true = λ e. or-r (has (plan .to) v) _ (share-has (plan .given2) i (plan .to2) v e) in
-      union-has (plan .to) (plan .to2) v ∙ or-elim (has x v) (has y v) first second (sym (union-has x y v) ∙ h)
+      union-has (plan .to) (plan .to2) v
+      ∙ or-elim (has (plan .to) v && has (plan .given) i) (has (plan .to2) v && has (plan .given2) i)
+      (λ e. or-l (has (plan .to) v) _ (and-l _ _ e)) (λ e. or-r (has (plan .to) v) _ (and-l _ _ e)) (sym (gets-has plan i v) ∙ h)
 
   stays-held : (v i : ℕ) → stays v i ≡ true → holds s v i ≡ true
   unfolding keeps holds itemsOf
@@ -73,7 +62,7 @@ module _ (s t : State) (plan : Plan) (p : Planned s t plan) where
 
     one : (i : ℕ) (b : Bool) → (holds s v i && b) ≡ false → (holds t v i && b) ≡ (got v i && b)
     one i true e = ap (λ (a : Bool). a && true) (anew i (and-false-l (holds s v i) true refl e))
-    one i false e = and-comm (holds t v i) false ∙ sym (and-comm (got v i) false)
+    one i false e = and-false (holds t v i) ∙ sym (and-false (got v i))
 
     neither : (i j : ℕ) → (holds s v i && holds s v j) ≡ false → got v i ≡ false → got v j ≡ false → (holds t v i && holds t v j) ≡ false
     neither i j e a b =
@@ -98,12 +87,12 @@ module _ (s t : State) (plan : Plan) (p : Planned s t plan) where
   by-condition : (c : Condition) → someBelow 64 (λ v. breaks s c v) ≡ false → someBelow 64 (λ v. breaks t c v) ≡ breaksAnew (s .items) plan c
   unfolding breaks breaksAnew someKeeps
   by-condition (forbid i x) e =
-      some-same 64 (λ v l. one v l i (has x v) (none-of 64 (λ v. breaks s (forbid i x) v) v e l)) ∙ sym (meets-some (gets plan i) x (gets-lt i))
+      some-same 64 (λ v l. one v l i (has x v) (none-of 64 (λ v. breaks s (forbid i x) v) v e l)) ∙ sym (meets-some (gets plan i) x (small i))
   by-condition (separate i j) e =
       some-same 64 (λ v l. both v l i j (none-of 64 (λ v. breaks s (separate i j) v) v e l))
-      ∙ some-or 64 _ _ ∙ ap₂ _||_ (some-or 64 _ _ ∙ ap₂ _||_ (sym (meets-some (gets plan i) (gets plan j) (gets-lt i))) refl) refl
+      ∙ some-or 64 _ _ ∙ ap₂ _||_ (some-or 64 _ _ ∙ ap₂ _||_ (sym (meets-some (gets plan i) (gets plan j) (small i))) refl) refl
   by-condition (confine i x) e =
-      some-same 64 (λ v l. one v l i (not (has x v)) (none-of 64 (λ v. breaks s (confine i x) v) v e l)) ∙ sym (outside-some (gets plan i) x (gets-lt i))
+      some-same 64 (λ v l. one v l i (not (has x v)) (none-of 64 (λ v. breaks s (confine i x) v) v e l)) ∙ sym (outside-some (gets plan i) x (small i))
 
   pub broken-anew : (r : Rule) → broken s r ≡ false → broken t r ≡ breaksAnew (s .items) plan (r .condition)
   unfolding broken

@@ -3,6 +3,7 @@ pub mod Searching
 pub mod Worklist
 pub mod ConditionLaws
 pub mod AnewLaws
+pub mod MetLaws
 pub mod StoredLaws
 pub mod LoadingLaws
 pub mod JudgingLaws

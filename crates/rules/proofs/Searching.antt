@@ -35,35 +35,25 @@ pub first-none : (n k : ℕ) (f : ℕ → Bool) → ((j : ℕ) → f j ≡ false
 first-none zero k f h = first-end k f ∙ omega arith
 first-none (suc n) k f h = first-miss k f n (h k) ∙ first-none n (suc k) f h ∙ omega arith
 
--- ---- a loop that has come to k without a hit
-pub record Seek (f : ℕ → Bool) (n k : ℕ) : Type 0 where
-  pub within : k ≤ n
-  pub same : firstFrom n 0 f ≡ firstFrom (n - k) k f
+-- ---- a loop that has come from s to k without a hit, where there are n numbers
+abbrev pub Seek : (ℕ → Bool) → ℕ → ℕ → ℕ → Type 0
+Seek f n s k = firstFrom (n - s) s f ≡ firstFrom (n - k) k f
 
-pub seek-start : (f : ℕ → Bool) (n : ℕ) → Seek f n 0
-seek-start f n = record { within = omega arith; same = ap (λ (m : ℕ). firstFrom m 0 f) (let z : n ≡ n - 0 = omega arith in z) }
-
-module _ {f : ℕ → Bool} {n k : ℕ} (w : Seek f n k) where
+module _ (f : ℕ → Bool) (n s k : ℕ) (w : Seek f n s k) where
   module _ (l : k < n) where
-    one-more : firstFrom n 0 f ≡ firstFrom (suc (n - (k + 1))) k f
-    one-more = w .same ∙ ap (λ (m : ℕ). firstFrom m k f) (let z : n - k ≡ suc (n - (k + 1)) = omega arith in z)
+    one-more : firstFrom (n - s) s f ≡ firstFrom (suc (n - (k + 1))) k f
+    one-more = w ∙ ap (λ (m : ℕ). firstFrom m k f) (let z : n - k ≡ suc (n - (k + 1)) = omega arith in z)
 
-    pub seek-hit : f k ≡ true → k ≡ firstFrom n 0 f
+    pub seek-hit : f k ≡ true → k ≡ firstFrom (n - s) s f
     seek-hit e = sym (one-more ∙ first-hit k f (n - (k + 1)) e)
 
-    pub seek-miss : f k ≡ false → Seek f n (k + 1)
+    pub seek-miss : f k ≡ false → Seek f n s (k + 1)
     seek-miss e =
-        record {
-          within = omega arith;
-          same =
-              one-more ∙ first-miss k f (n - (k + 1)) e
-              ∙ ap (λ (m : ℕ). firstFrom (n - (k + 1)) m f) (let z : suc k ≡ k + 1 = omega arith in z);
-        }
+        one-more ∙ first-miss k f (n - (k + 1)) e
+        ∙ ap (λ (m : ℕ). firstFrom (n - (k + 1)) m f) (let z : suc k ≡ k + 1 = omega arith in z)
 
-  pub seek-end : n ≤ k → n ≡ firstFrom n 0 f
-  seek-end l =
-      let e : k ≡ n = let h : k ≤ n = w .within in omega arith in
-      sym (w .same ∙ ap (λ (m : ℕ). firstFrom m k f) (let z : n - k ≡ 0 = omega arith in z) ∙ first-end k f ∙ e)
+  pub seek-end : n ≤ k → k ≡ firstFrom (n - s) s f
+  seek-end l = sym (w ∙ ap (λ (m : ℕ). firstFrom m k f) (let z : n - k ≡ 0 = omega arith in z) ∙ first-end k f)
 
 -- ---- the rule found
 module _ (n : ℕ) (rule : ℕ → Rule) (m : ℕ) where

@@ -1,12 +1,13 @@
 -- Sets that meet, sets that are no part of another, and whether some number below n does something.
-use Prim.Native.Nat.{ℕ, zero, suc, _^_, _<_}
+use Prim.Native.Nat.{ℕ, zero, suc, _-_, _^_, _<_}
 use native.Mathlib.Omega.{arith}
 use mathlib.Core.Path.{_≡_, refl, sym, ap, _∙_}
-use mathlib.Core.Bool.{Bool, true, false, not, _&&_, _||_, or-true}
+use mathlib.Core.Bool.{Bool, true, false, not, _&&_, _||_, or-true, and-true, and-false, and-not-self, or-not-self}
+use lib.Bits.{or-disjoint}
 use lib.Dec.{eqb}
 use borrow.Author.Tests.{eqb-true, eqb-false}
-use Rattle.sets.specs.Sets.{has, _∩_}
-use Rattle.sets.proofs.Members.{inter-has, inter-lt, none-has, has-lt, set-ext, some-member}
+use Rattle.sets.specs.Sets.{has, bit, those, thoseFrom, _∪_, _∩_}
+use Rattle.sets.proofs.Members.{union-has, union-lt, inter-has, inter-lt, those-has, those-lt, none-has, has-lt, set-ext, some-member}
 use Rattle.flow.specs.Lists.{someBelow}
 use Rattle.flow.specs.Links.{meets}
 use Rattle.flow.proofs.Bools.{by, choices}
@@ -36,6 +37,35 @@ pub some-or : (n : ℕ) (f g : ℕ → Bool) → someBelow n (λ i. f i || g i) 
 unfolding someBelow
 some-or zero f g = refl
 some-or (suc n) f g = either (f n) (g n) (someBelow n f) (someBelow n g) _ (some-or n f g)
+
+pub some-and : (n : ℕ) (f : ℕ → Bool) (b : Bool) → someBelow n (λ i. f i && b) ≡ (someBelow n f && b)
+some-and n f true = some-same n (λ i l. and-true (f i)) ∙ sym (and-true (someBelow n f))
+some-and n f false = none-below n _ (λ i l. and-false (f i)) ∙ sym (and-false (someBelow n f))
+
+-- ---- the machine's complement of a set
+all-has : (i : ℕ) → i < 64 → has (2 ^ 64 - 1) i ≡ true
+unfolding those thoseFrom bit
+all-has i h = ap (λ (x : ℕ). has x i) full ∙ those-has (λ j. true) i h
+  where
+    full : 2 ^ 64 - 1 ≡ those (λ j. true)
+    full = refl
+
+complement : (x : ℕ) → x < 2 ^ 64 → 2 ^ 64 - 1 - x ≡ those (λ i. not (has x i))
+unfolding _∪_ _∩_
+complement x h =
+    let y = those (λ i. not (has x i)) in
+    let k = those-lt (λ i. not (has x i)) in
+    let apart : x ∩ y ≡ 0 =
+    set-ext (x ∩ y) 0 (inter-lt x y h) (omega arith)
+    (λ i l. inter-has x y i ∙ rw (those-has (λ i. not (has x i)) i l) (and-not-self (has x i) ∙ sym (none-has i))) in
+    let full : x ∪ y ≡ 2 ^ 64 - 1 =
+    set-ext (x ∪ y) (2 ^ 64 - 1) (union-lt x y h k) (omega arith)
+    (λ i l. union-has x y i ∙ rw (those-has (λ i. not (has x i)) i l) (or-not-self (has x i) ∙ sym (all-has i l))) in
+    omega (arith, or-disjoint x y apart)
+
+pub less-has : (x y i : ℕ) → y < 2 ^ 64 → i < 64 → has (x ∩ (2 ^ 64 - 1 - y)) i ≡ (has x i && not (has y i))
+less-has x y i h l =
+    inter-has x _ i ∙ ap (λ (b : Bool). has x i && b) (ap (λ (z : ℕ). has z i) (complement y h) ∙ those-has (λ i. not (has y i)) i l)
 
 -- ---- a set y, and a set x below 2 ^ 64
 positive : (n : ℕ) → (n ≡ 0 → ⊥) → 0 < n

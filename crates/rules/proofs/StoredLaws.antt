@@ -34,12 +34,6 @@ pub rules-length : (sets fields : List ℕ) → length (rulesOf sets fields) ≡
 unfolding rulesOf
 rules-length sets fields = table-length (countOf fields) (ruleAt sets fields)
 
-pub no-rules : (sets fields : List ℕ) → getD fields countField 0 ≡ 0 → rulesOf sets fields ≡ []
-unfolding rulesOf table tableFrom
-no-rules sets fields e =
-    let z : countOf fields ≡ 0 = count-all fields (omega arith) ∙ e in
-    ap (λ (n : ℕ). table n (ruleAt sets fields)) z
-
 -- ---- a table with one more at its end
 table-more : {A : Type 0} (n k : ℕ) (f g : ℕ → A) (x : A) → ((j : ℕ) → j < k + n → g j ≡ f j) → g (k + n) ≡ x → tableFrom (suc n) k g ≡ tableFrom n k f ++ (x ∷ [])
 unfolding tableFrom

@@ -1,17 +1,20 @@
--- A loop that takes the lowest member of a set in each turn, until f holds of one or none is left.
+-- A loop that takes the lowest member of a set in each turn and gathers its items, until none is left.
 use Prim.Native.Nat.{ℕ, _%_, _<_, _^_}
 use native.Mathlib.Omega.{arith}
 use native.Mathlib.Nat.{mod-eq-of-lt}
 use native.Mathlib.Decide.{ℕ-discrete}
-use mathlib.Core.Path.{_≡_, refl, sym, ap, subst, _∙_}
+use mathlib.Core.Path.{_≡_, refl, sym, ap, _∙_}
 use mathlib.Core.Logic.{⊎-elim}
-use mathlib.Core.Bool.{Bool, true, false, not, _&&_, and-comm}
+use mathlib.Core.Bool.{Bool, true, false, not, _&&_, _||_, and-comm, and-false, or-false, or-assoc}
+use mathlib.Core.List.{List}
+use lib.ListN.{getD}
 use borrow.Author.Tests.{eq-eqb, ne-eqb}
-use Rattle.sets.specs.Sets.{has, without, lowest, count}
-use Rattle.sets.proofs.Members.{has-lt, lowest-has, without-has, without-lt, none-has, count-part}
+use Rattle.sets.specs.Sets.{has, _∪_, without, lowest, count}
+use Rattle.sets.proofs.Members.{union-has, has-lt, lowest-has, without-has, without-lt, none-has, count-part}
 use Rattle.flow.specs.Lists.{someBelow}
-use Rattle.flow.proofs.Bools.{and-l, and-i, no-both}
+use Rattle.flow.proofs.Bools.{by, and-l, and-i, no-both}
 use Rattle.flow.proofs.TableLaws.{some-of, none-below}
+use Rattle.rules.specs.Judging.{Held}
 use Rattle.rules.proofs.SetLaws.{some-same}
 
 -- ---- a set without v, at v and elsewhere
@@ -21,51 +24,63 @@ without-at x v i k d = without-has x v i k ∙ ap (λ (b : Bool). has x i && not
 without-other : (x v i : ℕ) → i < 64 → (i ≡ v → ⊥) → has (without x v) i ≡ has x i
 without-other x v i k d = without-has x v i k ∙ ap (λ (b : Bool). has x i && not b) (ne-eqb i v d) ∙ and-comm (has x i) true
 
--- some member of the set left is among those of x that f holds of
+-- some member of x is one that f holds of
 abbrev pub someOf : (ℕ → Bool) → ℕ → Bool
 someOf f x = someBelow 64 (λ v. has x v && f v)
 
-pub record Working (f : ℕ → Bool) (x left : ℕ) : Type 0 where
+-- found are the items of those gone through, left the rest of the set
+pub record Gathering (items : List ℕ) (set found left : ℕ) : Type 0 where
   pub small : left < 2 ^ 64
-  pub same : someOf f left ≡ someOf f x
+  pub same : (i : ℕ) → (has found i || someOf (λ v. has (getD items v 0) i) left) ≡ someOf (λ v. has (getD items v 0) i) set
 
-pub working-start : (f : ℕ → Bool) (x : ℕ) → x < 2 ^ 64 → Working f x x
-working-start f x h = record { small = h; same = refl }
+module _ (items : List ℕ) (set : ℕ) where
+  pub gather-start : set < 2 ^ 64 → Gathering items set 0 set
+  gather-start h = record { small = h; same = λ i. rw (none-has i) refl }
 
-pub working-end : (f : ℕ → Bool) (x left : ℕ) → Working f x left → left ≡ 0 → false ≡ someOf f x
-working-end f x left w e =
-    sym (none-below 64 (λ v. has left v && f v) (λ i l. ap (λ (z : ℕ). has z i && f i) e ∙ ap (λ (b : Bool). b && f i) (none-has i))) ∙ w .same
+  pub gather-end : (found left : ℕ) → Gathering items set found left → left ≡ 0 → Held items set found
+  gather-end found left w e =
+      record {
+        has-item = λ i.
+            sym (or-false (has found i))
+            ∙ ap (λ (b : Bool). has found i || b) (sym (none-below 64 _ (λ v l. rw (e, none-has v) refl)))
+            ∙ w .same i;
+      }
 
--- ---- one turn: v is the lowest of those left
-module _ (f : ℕ → Bool) (x left : ℕ) (w : Working f x left) (more : left ≡ 0 → ⊥) (v : ℕ) (is : v ≡ lowest left) where
-  member : has left v ≡ true
-  member = rw is (lowest-has left (w .small) (omega (arith, more)))
+  -- ---- one turn: v is the lowest of those left
+  module _ (found left : ℕ) (w : Gathering items set found left) (more : left ≡ 0 → ⊥) (v : ℕ) (is : v ≡ lowest left) where
+    member : has left v ≡ true
+    member = rw is (lowest-has left (w .small) (omega (arith, more)))
 
-  pub turn-below : v < 64
-  turn-below = has-lt left v (w .small) member
+    pub turn-below : v < 64
+    turn-below = has-lt left v (w .small) member
 
-  itself : v % 64 ≡ v
-  itself = mod-eq-of-lt turn-below
+    itself : v % 64 ≡ v
+    itself = mod-eq-of-lt turn-below
 
-  pub turn-fewer : (later : ℕ) → later ≡ without left (v % 64) → count later < count left
-  turn-fewer later e =
-      rw (e, itself)
-      (⊎-elim (λ q. no-both (ap (λ (z : ℕ). has z v) q ∙ member) (without-at left v v turn-below refl)) (λ q. q)
-      (count-part (without left v) left (without-lt left v) (w .small)
-      (λ i m. and-l _ _ (sym (without-has left v i (has-lt _ i (without-lt left v) m)) ∙ m))))
+    pub turn-fewer : (later : ℕ) → later ≡ without left (v % 64) → count later < count left
+    turn-fewer later e =
+        rw (e, itself)
+        (⊎-elim (λ q. no-both (ap (λ (z : ℕ). has z v) q ∙ member) (without-at left v v turn-below refl)) (λ q. q)
+        (count-part (without left v) left (without-lt left v) (w .small)
+        (λ i m. and-l _ _ (sym (without-has left v i (has-lt _ i (without-lt left v) m)) ∙ m))))
 
-  pub turn-hit : f v ≡ true → true ≡ someOf f x
-  turn-hit e = sym (some-of 64 (λ v. has left v && f v) v turn-below (and-i (has left v) (f v) member e)) ∙ w .same
+    -- v and the rest
+    split : (f : ℕ → Bool) → (f v || someOf f (without left v)) ≡ someOf f left
+    split f =
+        by (f v)
+        (λ e. rw e (sym (some-of 64 (λ v. has left v && f v) v turn-below (and-i (has left v) (f v) member e))))
+        (λ e. rw e (some-same 64 (λ i l. at e i l (ℕ-discrete i v))))
+      where
+        at : f v ≡ false → (i : ℕ) → i < 64 → Dec (i ≡ v) → (has (without left v) i && f i) ≡ (has left i && f i)
+        at e i l (yes d) = ap (λ (b : Bool). b && f i) (without-at left v i l d) ∙ sym (ap (λ (b : Bool). has left i && b) (ap f d ∙ e) ∙ and-false (has left i))
+        at e i l (no d) = ap (λ (b : Bool). b && f i) (without-other left v i l d)
 
-  module _ (e : f v ≡ false) where
-    at : (i : ℕ) → i < 64 → Dec (i ≡ v) → (has (without left v) i && f i) ≡ (has left i && f i)
-    at i l (yes d) = ap (λ (b : Bool). b && f i) (without-at left v i l d) ∙ sym (ap (λ (b : Bool). has left i && b) (ap f d ∙ e) ∙ and-comm (has left i) false)
-    at i l (no d) = ap (λ (b : Bool). b && f i) (without-other left v i l d)
-
-    pub turn-miss : (later : ℕ) → later ≡ without left (v % 64) → Working f x later
-    turn-miss later q =
+    pub gather-more : (x later : ℕ) → x ≡ getD items v 0 → later ≡ without left (v % 64) → Gathering items set (found ∪ x) later
+    gather-more x later e q =
         let p : later ≡ without left v = q ∙ ap (without left) itself in
         record {
-          small = subst (λ (n : ℕ). n < 2 ^ 64) (sym p) (without-lt left v);
-          same = ap (someOf f) p ∙ some-same 64 (λ i l. at i l (ℕ-discrete i v)) ∙ w .same;
+          small = rw p (without-lt left v);
+          same = λ i.
+              rw (p, union-has found x i, e, or-assoc (has found i))
+              (ap (λ (b : Bool). has found i || b) (split (λ v. has (getD items v 0) i)) ∙ w .same i);
         }

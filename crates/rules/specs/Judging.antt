@@ -1,5 +1,5 @@
 -- A planned call is judged before anything is stored (01, What a record gets): which rules it breaks that were whole before it.
-use Prim.Native.Nat.{ℕ, zero, suc, _<_, _^_}
+use Prim.Native.Nat.{ℕ, zero, suc, _-_, _<_, _^_}
 use mathlib.Core.Path.{_≡_}
 use mathlib.Core.Bool.{Bool, true, false, not, _&&_, _||_}
 use mathlib.Core.List.{List}
@@ -30,6 +30,22 @@ keeps items plan v i = has (getD items v 0) i && not (has (plan .empty) v)
 -- some container of the set keeps item i
 unfoldable pub someKeeps : List ℕ → Plan → ℕ → ℕ → Bool
 someKeeps items plan set i = someBelow containerCount (λ v. has set v && keeps items plan v i)
+
+-- the set x where b holds, else the empty set
+unfoldable pub onlyIf : Bool → ℕ → ℕ
+onlyIf b x = elim b [ true ↦ x | false ↦ 0 ]
+
+-- r has the items of the set's containers
+pub record Held (items : List ℕ) (set r : ℕ) : Type 0 where
+  pub has-item : (i : ℕ) → has r i ≡ someBelow containerCount (λ v. has set v && has (getD items v 0) i)
+
+-- r has the items that the set's containers hold once the plan is made: they keep them or get them
+pub record Met (items : List ℕ) (plan : Plan) (set r : ℕ) : Type 0 where
+  pub has-item : (i : ℕ) → has r i ≡ someBelow containerCount (λ v. has set v && (keeps items plan v i || has (gets plan i) v))
+
+-- of items i and j one is given, and the other is met where the gift goes
+unfoldable pub meet : ℕ → ℕ → ℕ → ℕ → Bool
+meet given met i j = (has given i && has met j) || (has given j && has met i)
 
 -- What the plan makes of a state s, as far as judging goes by it, where t is the state after the call. What t holds was kept or given; what is
 -- given is held; and what gets anything has what it kept.
@@ -62,6 +78,14 @@ firstFrom (suc n) k f = elim (f k) [ true ↦ k | false ↦ firstFrom n (suc k) 
 -- the number of the first loaded rule that the plan breaks anew, and how many are loaded where it breaks none
 unfoldable pub firstAnew : List ℕ → Plan → List ℕ → List ℕ → ℕ
 firstAnew items plan sets fields = firstFrom (countOf fields) 0 (λ k. breaksAnew items plan (ruleAt sets fields k .condition))
+
+-- the plan breaks rule k anew
+abbrev pub breaksRule : List ℕ → Plan → List ℕ → List ℕ → ℕ → Bool
+breaksRule items plan sets fields k = breaksAnew items plan (ruleAt sets fields k .condition)
+
+-- the first of the rules from k on that it breaks anew, and the number behind them where it breaks none
+abbrev pub anewFrom : List ℕ → Plan → List ℕ → List ℕ → ℕ → ℕ
+anewFrom items plan sets fields k = firstFrom (countOf fields - k) k (breaksRule items plan sets fields)
 
 -- the number that judging answers; the plan's sets are of containers
 pub record Judged (items : List ℕ) (plan : Plan) (sets fields : List ℕ) (r : ℕ) : Type 0 where

@@ -4,9 +4,8 @@ use borrow.Author.Needs.{needs}
 use Rattle.records.proofs.cut_short.Statement.{statement}
 use Rattle.records.proofs.cut_short.Tie as tie
 
-returns : tie.Need-returns
-unfolding cutShort recordLength
-returns c = rw (c .stated-length .ensures)
-
 pub cut-short-spec : {M : Type 1} → statement M
-cut-short-spec = tie.close (tie.spec (λ c κs. search needs) (λ c. search needs) (λ c. search needs) returns)
+unfolding cutShort recordLength
+cut-short-spec =
+    tie.close
+    (tie.spec (λ c κs. search needs) (λ c. search needs) (λ c. search needs) (λ c. rw (c .stated-length .ensures)))

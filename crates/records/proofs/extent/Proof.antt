@@ -7,15 +7,10 @@ use borrow.Author.Needs.{needs}
 use Rattle.records.proofs.extent.Statement.{statement}
 use Rattle.records.proofs.extent.Tie as tie
 
-returns : tie.Need-returns
-unfolding extentOf
-returns c = sym (chosen-l (cutShort _) _ _ (sym (c .before .cut-short .ensures) ∙ c .if1 .taken))
-
-returns-2 : tie.Need-returns-2
-unfolding extentOf recordLength
-returns-2 c = rw (c .stated-length .ensures) (sym (chosen-r (cutShort _) _ _ (sym (c .before .before .cut-short .ensures) ∙ c .before .if1 .left)))
-
 pub extent-spec : {M : Type 1} → statement M
+unfolding extentOf recordLength
 extent-spec =
     tie.close
-    (tie.spec (λ c κs. search needs) (λ c κs. search needs) (λ c. search needs) (λ c. search needs) returns returns-2)
+    (tie.spec (λ c κs. search needs) (λ c κs. search needs) (λ c. search needs) (λ c. search needs)
+    (λ c. sym (chosen-l (cutShort _) _ _ (sym (c .before .cut-short .ensures) ∙ c .if1 .taken)))
+    (λ c. rw (c .stated-length .ensures) (sym (chosen-r (cutShort _) _ _ (sym (c .before .before .cut-short .ensures) ∙ c .before .if1 .left)))))

@@ -4,9 +4,8 @@ use Rattle.flow.specs.Records.{knownTag}
 use Rattle.records.proofs.known.Statement.{statement}
 use Rattle.records.proofs.known.Tie as tie
 
-returns : tie.Need-returns
-unfolding knownTag
-returns c = refl
-
 pub known-spec : {M : Type 1} → statement M
-known-spec = tie.close (tie.spec returns)
+unfolding knownTag
+known-spec =
+    tie.close
+    (tie.spec (λ c. refl))

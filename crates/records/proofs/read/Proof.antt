@@ -13,28 +13,6 @@ whole : (c : tie.Else1) → firstThat (frameTests (c .before .before .before .ar
 unfolding refusalFrom
 whole c = sym (c .before .refusal .ensures) ∙ ap refusalFrom (c .if1 .left)
 
-returns : tie.Need-returns
-unfolding readingOf
-returns c = unread _ _ (c .if1 .taken) (c .before .refusal .ensures)
-
-returns-2 : tie.Need-returns-2
-unfolding readingOf tagOf
-returns-2 c =
-    let d : tie.After-at2 = c .before .before .before .before .before in
-    cc (call-read _ (whole (d .before .before)) (sym (d .before .at .ensures) ∙ c .before .before .before .before .if2 .taken))
-
-returns-3 : tie.Need-returns-3
-unfolding readingOf tagOf
-returns-3 c =
-    let d : tie.After-at2 = c .before .before .before .before .before in
-    cc (separate-read _ (whole (d .before .before)) (sym (d .before .at .ensures) ∙ c .before .before .before .if3 .taken))
-
-returns-4 : tie.Need-returns-4
-unfolding readingOf tagOf
-returns-4 c =
-    let d : tie.After-at2 = c .before .before .before .before .before .before in
-    cc (forbid-read _ (whole (d .before .before)) (sym (d .before .at .ensures) ∙ c .if4 .taken))
-
 returns-5 : tie.Need-returns-5
 unfolding readingOf tagOf
 returns-5 c =
@@ -44,24 +22,18 @@ returns-5 c =
     cc (confine-read _ (whole (d .before .before)) (λ q. e .before .if2 .left (t ∙ q)) (λ q. c .if4 .left (t ∙ q)) (λ q. e .if3 .left (t ∙ q)))
 
 pub read-spec : {M : Type 1} → statement M
+unfolding readingOf tagOf
 read-spec =
     tie.close
-    (tie.spec
-    (λ c κs. search needs)
-    returns
-    (λ c κs. search needs)
-    (λ c κs. search needs)
-    (λ c κs. search needs)
-    (λ c κs. search needs)
-    (λ c κs. search needs)
-    (λ c κs. search needs)
-    returns-2
-    (λ c κs. search needs)
-    (λ c κs. search needs)
-    (λ c κs. search needs)
-    returns-3
-    (λ c κs. search needs)
-    (λ c κs. search needs)
-    (λ c κs. search needs)
-    returns-4
+    (tie.spec (λ c κs. search needs)
+    (λ c. unread _ _ (c .if1 .taken) (c .before .refusal .ensures))
+    (λ c κs. search needs) (λ c κs. search needs) (λ c κs. search needs) (λ c κs. search needs) (λ c κs. search needs) (λ c κs. search needs)
+    (λ c. let d : tie.After-at2 = c .before .before .before .before .before in
+    cc (call-read _ (whole (d .before .before)) (sym (d .before .at .ensures) ∙ c .before .before .before .before .if2 .taken)))
+    (λ c κs. search needs) (λ c κs. search needs) (λ c κs. search needs)
+    (λ c. let d : tie.After-at2 = c .before .before .before .before .before in
+    cc (separate-read _ (whole (d .before .before)) (sym (d .before .at .ensures) ∙ c .before .before .before .if3 .taken)))
+    (λ c κs. search needs) (λ c κs. search needs) (λ c κs. search needs)
+    (λ c. let d : tie.After-at2 = c .before .before .before .before .before .before in
+    cc (forbid-read _ (whole (d .before .before)) (sym (d .before .at .ensures) ∙ c .if4 .taken)))
     returns-5)

@@ -21,32 +21,14 @@ length-wrong : (c : tie.After-length-of) → wrongLength (c .before .before .bef
 unfolding tagOf
 length-wrong c = tested _ _ _ _ (c .before .stated-length .ensures) (c .before .before .before .before .at .ensures) (c .length-of .ensures)
 
-returns : tie.Need-returns
-unfolding firstThat refusalFrom
-returns c = sym (framed _ true _ _ (sym (c .before .cut-short .ensures) ∙ c .if1 .taken) refl refl)
-
-returns-2 : tie.Need-returns-2
-unfolding firstThat refusalFrom
-returns-2 c = sym (framed _ false false _ (uncut (c .before .before .before)) (tag-known (c .before) ∙ not-true _ (c .if2 .taken)) refl)
-
-returns-3 : tie.Need-returns-3
-unfolding firstThat refusalFrom
-returns-3 c = sym (framed _ false true true (uncut (c .before .before .before .before .before .before)) (tag-known (c .before .before .before .before) ∙ not-false _ (c .before .before .before .if2 .left)) (length-wrong (c .before) ∙ ap not (ne-eqb _ _ (c .if3 .taken))))
-
-returns-4 : tie.Need-returns-4
-unfolding firstThat refusalFrom
-returns-4 c = sym (framed _ false true false (uncut (c .before .before .before .before .before .before)) (tag-known (c .before .before .before .before) ∙ not-false _ (c .before .before .before .if2 .left)) (length-wrong (c .before) ∙ ap not (eq-eqb _ _ (c .if3 .left))))
-
 pub refusal-spec : {M : Type 1} → statement M
+unfolding firstThat refusalFrom
 refusal-spec =
     tie.close
-    (tie.spec
-    (λ c κs. search needs)
-    returns
-    (λ c κs. search needs)
-    (λ c κs. search needs)
-    returns-2
-    (λ c κs. search needs)
-    (λ c κs. search needs)
-    returns-3
-    returns-4)
+    (tie.spec (λ c κs. search needs)
+    (λ c. sym (framed _ true _ _ (sym (c .before .cut-short .ensures) ∙ c .if1 .taken) refl refl))
+    (λ c κs. search needs) (λ c κs. search needs)
+    (λ c. sym (framed _ false false _ (uncut (c .before .before .before)) (tag-known (c .before) ∙ not-true _ (c .if2 .taken)) refl))
+    (λ c κs. search needs) (λ c κs. search needs)
+    (λ c. sym (framed _ false true true (uncut (c .before .before .before .before .before .before)) (tag-known (c .before .before .before .before) ∙ not-false _ (c .before .before .before .if2 .left)) (length-wrong (c .before) ∙ ap not (ne-eqb _ _ (c .if3 .taken)))))
+    (λ c. sym (framed _ false true false (uncut (c .before .before .before .before .before .before)) (tag-known (c .before .before .before .before) ∙ not-false _ (c .before .before .before .if2 .left)) (length-wrong (c .before) ∙ ap not (eq-eqb _ _ (c .if3 .left))))))

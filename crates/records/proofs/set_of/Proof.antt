@@ -6,26 +6,10 @@ use borrow.Author.Needs.{needs}
 use Rattle.records.proofs.set_of.Statement.{statement}
 use Rattle.records.proofs.set_of.Tie as tie
 
-returns : tie.Need-returns
-unfolding tableFrom numberFrom
-returns c = omega arith
-
 pub set-of-spec : {M : Type 1} → statement M
+unfolding tableFrom numberFrom
 set-of-spec =
     tie.close
-    (tie.spec
-    (λ c κs. search needs)
-    (λ c κs. search needs)
-    (λ c κs. search needs)
-    (λ c κs. search needs)
-    (λ c κs. search needs)
-    (λ c κs. search needs)
-    (λ c κs. search needs)
-    (λ c κs. search needs)
-    (λ c κs. search needs)
-    (λ c κs. search needs)
-    (λ c. search needs)
-    (λ c. search needs)
-    (λ c. search needs)
-    (λ c. search needs)
-    returns)
+    (tie.spec (λ c κs. search needs) (λ c κs. search needs) (λ c κs. search needs) (λ c κs. search needs) (λ c κs. search needs)
+    (λ c κs. search needs) (λ c κs. search needs) (λ c κs. search needs) (λ c κs. search needs) (λ c κs. search needs)
+    (λ c. search needs) (λ c. search needs) (λ c. search needs) (λ c. search needs) (λ c. omega arith))

@@ -13,19 +13,12 @@ Inv-loop log at₀ n₀ at n = Counted log at n
 abbrev μ-loop : tie.MeasureT-loop
 μ-loop log at₀ n₀ at n = length log - at
 
-loop-holds : tie.Need-loop-holds Inv-loop μ-loop
-loop-holds c = count-start _
-
-loop-less : tie.Need-loop-less Inv-loop μ-loop
-loop-less c = omega (arith, end-past (c .before .before .loop .inv) (c .before .loop-test .taken) _ (c .end-after .ensures), end-within (c .before .before .loop .inv) (c .before .loop-test .taken) _ (c .end-after .ensures))
-
-loop-again : tie.Need-loop-again Inv-loop μ-loop
-loop-again c = count-more (c .before .before .loop .inv) (c .before .loop-test .taken) _ (c .end-after .ensures)
-
-returns : tie.Need-returns Inv-loop μ-loop
-returns c = count-end (c .before .loop .inv) (c .loop-test .left)
-
 pub records-in-spec : {M : Type 1} → statement M
 records-in-spec =
     tie.close
-    (tie.spec Inv-loop μ-loop loop-holds (λ c κs. search needs) (λ c. search needs) loop-less loop-again returns)
+    (tie.spec Inv-loop μ-loop
+    (λ c. count-start _)
+    (λ c κs. search needs) (λ c. search needs)
+    (λ c. omega (arith, end-past, end-within))
+    (λ c. count-more (c .before .before .loop .inv) (c .before .loop-test .taken) _ (c .end-after .ensures))
+    (λ c. count-end (c .before .loop .inv) (c .loop-test .left)))

@@ -1,22 +1,28 @@
 -- `touches` asks for the first item, and of tag 12 hex for the second.
-use mathlib.Core.Path.{sym, _∙_}
-use Rattle.rules.proofs.ConditionLaws.{touches-first, touches-second, touches-none}
+use native.Mathlib.Nat.{mod-eq-of-lt}
+use native.Mathlib.Omega.{arith}
+use mathlib.Core.Path.{sym, ap, _∙_}
 use borrow.Author.Needs.{needs}
+use borrow.Author.Tests.{eq-eqb, ne-eqb}
+use Rattle.sets.specs.Sets.{has}
+use Rattle.rules.proofs.ConditionLaws.{touches-is}
 use Rattle.rules.proofs.judging.touches.Statement.{statement}
 use Rattle.rules.proofs.judging.touches.Tie as tie
 
 returns : tie.Need-returns
-returns c = touches-first _ _ _ _ (sym (c .before .has .ensures) ∙ c .if1 .taken)
+returns c = rw (touches-is, sym (c .before .member .ensures), c .if1 .taken)
 
 returns-2 : tie.Need-returns-2
 returns-2 c =
     let b = c .before .before in
-    c .has2 .ensures ∙ touches-second _ _ _ _ (sym (b .before .has .ensures) ∙ b .if1 .left) (c .before .if2 .taken)
+    rw (touches-is, sym (b .before .member .ensures), b .if1 .left, eq-eqb _ 0x12 (c .before .if2 .taken)) (c .member2 .ensures ∙ ap (has _) (mod-eq-of-lt (omega arith)))
 
 returns-3 : tie.Need-returns-3
 returns-3 c =
     let b = c .before in
-    touches-none _ _ _ _ (sym (b .before .has .ensures) ∙ b .if1 .left) (c .if2 .left)
+    rw (touches-is, sym (b .before .member .ensures), b .if1 .left, ne-eqb _ 0x12 (c .if2 .left))
 
 pub touches-spec : {M : Type 1} → statement M
-touches-spec = tie.close (tie.spec (λ c κs. search needs) returns (λ c κs. search needs) returns-2 returns-3)
+touches-spec =
+    tie.close
+    (tie.spec (λ c κs. search needs) returns (λ c. search needs) (λ c κs. search needs) returns-2 returns-3)
