@@ -3,7 +3,7 @@
 A function's proof goes by its own body and by the contracts of what it calls. So where each edit changes the
 body of one function, and none of these functions reaches another, by calls or by what its proof cites, each is
 refused at its own proof, in the words that it gets alone. Every other edit is tried alone: one of a contract,
-of a constant or a type, of specs/, of two functions, or of a function that reaches itself.
+of a constant or a type, of specs/, of two functions, of a function that reaches itself, or one that adds a call.
 """
 
 import re
@@ -25,15 +25,15 @@ class Function(NamedTuple):
     end: int
 
 
-def modules_of(file: Path) -> Steps:
+def modules_of(file: str) -> Steps:
     """The modules that lead to a file of src/."""
-    steps = file.with_suffix("").parts
+    steps = Path(file).with_suffix("").parts[1:]
     return steps[:-1] if steps[-1] in ("lib", "main", "mod") else steps
 
 
-def functions_in(text: str, modules: Steps) -> List[Function]:
+def functions_in(text: str, file: str) -> List[Function]:
     """The functions of a file of src/, but for those that are not laid out as expected."""
-    found = []
+    modules, found = modules_of(file), []
     for header in HEADER.finditer(text):
         indent, owner = header["indent"], modules
         if indent:
@@ -41,20 +41,26 @@ def functions_in(text: str, modules: Steps) -> List[Function]:
             if not last or not last[0]:
                 continue
             owner = (*modules, last[0])
-        opened = re.compile(rf"^{indent}(?:\{{|(?:fn|pub|\)).* \{{)$", re.M).search(text, header.start())
-        closed = opened and re.compile(rf"^{indent}\}}$", re.M).search(text, opened.end())
+        opened = re.compile(rf"^{indent}(?:\{{|(?:fn|pub|\)).* \{{)(?=\}}?$)", re.M).search(text, header.start())
+        closed = opened and re.compile(rf"(?:^{indent}|\{{)\}}$", re.M).search(text, opened.end() - 1)
         if closed and not HEADER.search(text, header.end(), closed.start()):
             found.append(Function((*owner, header["name"]), header.start(), opened.end(), closed.end()))
     return found
 
 
-def function_changed(before: str, after: str, modules: Steps) -> Optional[Function]:
+def function_changed(before: str, after: str, file: str) -> Optional[Function]:
     """The function, as it was, whose body is all that differs."""
-    for one in functions_in(before, modules):
-        rest = len(before) - one.end
-        if before[: one.body] == after[: one.body] and before[one.end - 1 :] == after[len(after) - rest - 1 :]:
+    for one in functions_in(before, file):
+        front, back = before[: one.body], before[one.end - 1 :]
+        if len(front) + len(back) <= len(after) and after.startswith(front) and after.endswith(back):
             return one
     return None
+
+
+def names_from(libraries: Set[str], text: str) -> Set[str]:
+    """The libraries, and the names that a file has from them."""
+    paths = [path.split("::") for path in re.findall(r"^use ((?:\w+::)+\w+);$", text, re.M)]
+    return libraries | {path[-1] for path in paths if path[0] in libraries}
 
 
 # A call as rt fmt lays it out, with what stands before the name: a module or a type, or a dot.
@@ -65,27 +71,25 @@ class Crate:
     """A crate as it is: its functions, and what each reaches."""
 
     def __init__(self, folder: Path, libraries: List[str]):
-        sources = {f"src/{file.relative_to(folder / 'src')}": file.read_text() for file in (folder / "src").rglob("*.rt")}
-        self.texts = {name: re.sub(r"^ *//.*", lambda line: " " * len(line[0]), text, flags=re.M) for name, text in sources.items()}
-        self.sources, self.libraries = sources, {"std", *libraries}
-        self.functions = {name: functions_in(text, modules_of(Path(name).relative_to("src"))) for name, text in sources.items()}
-        self.uses: Dict[Steps, Set[Steps]] = {one.steps: set() for each in self.functions.values() for one in each}
-        for name, functions in self.functions.items():
-            outside = self.outside(name)
-            for one in functions:
-                self.uses[one.steps] = self.called(self.texts[name][one.start : one.end], one, outside)
+        files = sorted((folder / "src").rglob("*.rt"))
+        self.texts = {str(file.relative_to(folder)): file.read_text() for file in files}
+        functions = {file: functions_in(text, file) for file, text in self.texts.items()}
+        self.uses: Dict[Steps, Set[Steps]] = {one.steps: set() for each in functions.values() for one in each}
+        modules = {step for file in self.texts for step in modules_of(file)}
+        self.outside = {file: names_from({"std", *libraries} - modules, text) for file, text in self.texts.items()}
+        # a function that was not found, a name for a name, or code in a contract: nothing is certain
+        code = [re.sub(r"^ *//.*", "", text, flags=re.M) for text in self.texts.values()]
+        found = sum(len(re.findall(r"\bfn \w", text)) for text in code)
+        self.certain = found == len(self.uses) and not any(re.search(r"^use .* as |⟦", text, re.M) for text in code)
+        for file, each in functions.items():
+            for one in each:
+                self.uses[one.steps] = self.called(self.texts[file][one.start : one.end], file)
         self.add_proofs(folder)
 
-    def outside(self, name: str) -> Set[str]:
-        """What a file has from libraries."""
-        paths = re.findall(r"^use ((?:\w+::)+\w+);$", self.texts[name], re.M)
-        return self.libraries | {path.split("::")[-1] for path in paths if path.split("::")[0] in self.libraries}
-
-    def called(self, text: str, one: Function, outside: Set[str]) -> Set[Steps]:
-        """The functions that a function's text calls; where it is not certain which, all of that name."""
-        if "⟦" in text:
-            return set(self.uses)
+    def called(self, text: str, file: str) -> Set[Steps]:
+        """The functions that a function's text calls; where several may be meant, all of that name."""
         found: Set[Steps] = set()
+        text, outside = re.sub(r"^ *//.*", "", text, flags=re.M), self.outside[file]
         for owner, dot, name in CALL.findall(text[text.index("fn ") + 3 :].partition("(")[2]):
             named = {steps for steps in self.uses if steps[-1] == name}
             if dot:
@@ -123,11 +127,12 @@ class Crate:
 
     def body_of(self, edited: Dict[str, str]) -> Optional[Steps]:
         """The function whose body is all that an edit changes, where it may be tried beside others."""
-        if len(edited) != 1:
+        (file, after), *more = edited.items()
+        one = function_changed(self.texts[file], after, file) if self.certain and not more and file in self.texts else None
+        if not one or one.steps in self.reached(one.steps):
             return None
-        (name, text), = edited.items()
-        one = function_changed(self.sources[name], text, modules_of(Path(name).relative_to("src"))) if name in self.sources else None
-        return one.steps if one and one.steps not in self.reached(one.steps) else None
+        end = len(after) - len(self.texts[file]) + one.end
+        return one.steps if self.called(after[one.start : end], file) <= self.uses[one.steps] else None
 
     def together(self, one: Steps, other: Steps) -> bool:
         """Whether neither of two functions has to do with the other."""
@@ -141,11 +146,11 @@ class Crate:
     def merged(self, edits: List[Dict[str, str]]) -> Dict[str, str]:
         """The files that have the changed body of each edit."""
         files: Dict[str, str] = {}
-        for name, before in self.sources.items():
+        for name, before in self.texts.items():
             at, text = 0, ""
             bodies = {}
             for after in (edited[name] for edited in edits if name in edited):
-                one = function_changed(before, after, modules_of(Path(name).relative_to("src")))
+                one = function_changed(before, after, name)
                 bodies[one] = after[one.body : len(after) - (len(before) - one.end)]
             for one in sorted(bodies, key=lambda function: function.body):
                 text += before[at : one.body] + bodies[one]
