@@ -21,7 +21,7 @@ use Rattle.tracker.specs.Rows.{callIn, Passes}
 use Rattle.tracker.specs.Plans.{nothing, planAt, givesAt}
 use Rattle.tracker.specs.Worked.{given, finished, mapsBy, Foreseen}
 use Rattle.tracker.proofs.Joined.{quiet, quiet-given, still-passes, finished-call, foreseen}
-use Rattle.rules.proofs.AnewLaws.{nothing-given}
+use Rattle.rules.proofs.AnewLaws.{nothing-given, judges}
 use Rattle.rules.specs.Stored.{ruleAt, countOf}
 use Rattle.rules.specs.Judging.{Judged}
 use Rattle.decision.specs.declared.Monitor.{Monitor}
@@ -63,7 +63,7 @@ module _ (m : Monitor) (b : Bytes) where
       let e : planned ≡ nothing = quiet (maps m) b (kindOf (b .kind)) h in
       record {
         made = λ z. quiet-given (maps m) (part-length 1 64 (m .words) (omega arith)) b h;
-        passed = λ z. rw e (record { small = omega arith; small2 = omega arith; number = nothing-given nothing refl (itemsIn (m .words)) (m .sets) (m .fields) (countOf (m .fields)) refl });
+        passed = λ z. rw e (judges (itemsIn (m .words)) nothing (m .sets) (m .fields) _ (omega arith) (omega arith) (nothing-given nothing refl (itemsIn (m .words)) (m .sets) (m .fields)));
         kept = λ z. refl;
         stopped = λ z. absurd (z refl);
         broken = λ z. absurd (z refl);
