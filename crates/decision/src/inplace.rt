@@ -169,6 +169,32 @@ fn load_in(
     Answer::Loaded(k)
 }
 
+// The call of five bytes.
+fn call(kind: u8, process: u8, a: u8, b: u8, c: u8) -> Call
+    ensures { λ q. ⌜ q ≡ record { kind = kind; process = process; a = a; b = b; c = c } ⌝ }
+{
+    Call {
+        kind,
+        process,
+        a,
+        b,
+        c,
+    }
+}
+
+// The rule of these fields.
+fn rule(tag: u8, item: u8, set: u64, action: u8, substitute: u8) -> RuleFields
+    ensures { λ r. ⌜ r ≡ record { tag = tag; item = item; set = set; action = action; substitute = substitute } ⌝ }
+{
+    RuleFields {
+        tag,
+        item,
+        set,
+        action,
+        substitute,
+    }
+}
+
 // What the record at the front of the bytes gets.
 pub fn answer_in(
     words: &mut [u64; 97],
@@ -183,59 +209,22 @@ pub fn answer_in(
     let record = read(bytes);
     match record {
         Record::Unreadable(n) => Answer::Refused(n),
-        Record::Call(kind, process, a, b, c) => call_in(
-            words,
-            descriptors,
-            names,
-            sets,
-            fields,
-            Call {
-                kind,
-                process,
-                a,
-                b,
-                c,
-            },
-        ),
-        Record::Forbid(item, set, action, substitute) => load_in(
-            words,
-            sets,
-            fields,
-            RuleFields {
-                tag: FORBID_TAG,
-                item,
-                set,
-                action,
-                substitute,
-            },
-        ),
+        Record::Call(kind, process, a, b, c) => {
+            let q = call(kind, process, a, b, c);
+            call_in(words, descriptors, names, sets, fields, q)
+        }
+        Record::Forbid(item, set, action, substitute) => {
+            let r = rule(FORBID_TAG, item, set, action, substitute);
+            load_in(words, sets, fields, r)
+        }
         Record::Separate(item, other, action, substitute) => {
-            let set = other as u64;
-            load_in(
-                words,
-                sets,
-                fields,
-                RuleFields {
-                    tag: SEPARATE_TAG,
-                    item,
-                    set,
-                    action,
-                    substitute,
-                },
-            )
-        },
-        Record::Confine(item, set, action, substitute) => load_in(
-            words,
-            sets,
-            fields,
-            RuleFields {
-                tag: CONFINE_TAG,
-                item,
-                set,
-                action,
-                substitute,
-            },
-        ),
+            let r = rule(SEPARATE_TAG, item, other as u64, action, substitute);
+            load_in(words, sets, fields, r)
+        }
+        Record::Confine(item, set, action, substitute) => {
+            let r = rule(CONFINE_TAG, item, set, action, substitute);
+            load_in(words, sets, fields, r)
+        }
     }
 }
 

@@ -19,48 +19,33 @@ returns c =
 returns-2 : tie.Need-returns-2
 unfolding readingOf conditionOf
 returns-2 c =
-    let c7 = c .before .before .before .before .before .before .before in
-    let c9 = c7 .before .before in
-    by-reading _ _ (Call _ _ _ _ _) _ (ap readingOf (sym (c7 .record2 .given .1)) ∙ c9 .read .ensures) (c .call-in .ensures)
+    let q = c .before .before .before .before .before .before in
+    let r = q .before .before in
+    by-reading _ _ (Call _ _ _ _ _) _ (ap readingOf (sym (r .record2 .given .1)) ∙ r .before .before .read .ensures) (rw (q .call .ensures) at (c .call-in .ensures))
 
 returns-3 : tie.Need-returns-3
 unfolding readingOf conditionOf
 returns-3 c =
-    let c5 = c .before .before .before .before .before in
-    let c7 = c5 .before .before in
-    by-reading _ _ (Forbid _ _ _ _) _ (ap readingOf (sym (c5 .record3 .given .1)) ∙ c7 .read .ensures) (c .load-in .ensures _ _)
+    let q = c .before .before .before .before in
+    let r = q .before .before in
+    let a = r .before .before .before .before .args in
+    by-reading _ _ (Forbid _ _ _ _) _ (ap readingOf (sym (r .record3 .given .1)) ∙ r .before .before .read .ensures) (rw (q .rule .ensures) at (c .load-in .ensures (a .descriptors .now) (a .names .now)))
 
 returns-4 : tie.Need-returns-4
 unfolding readingOf conditionOf
 returns-4 c =
-    let c5 = c .before .before .before .before .before in
-    let c7 = c5 .before .before in
-    by-reading _ _ (Separate _ _ _ _) _ (ap readingOf (sym (c5 .record4 .given .1)) ∙ c7 .read .ensures) (c .load-in2 .ensures _ _)
+    let q = c .before .before .before .before in
+    let r = q .before .before in
+    let a = r .before .before .before .before .args in
+    by-reading _ _ (Separate _ _ _ _) _ (ap readingOf (sym (r .record4 .given .1)) ∙ r .before .before .read .ensures) (rw (q .rule2 .ensures) at (c .load-in2 .ensures (a .descriptors .now) (a .names .now)))
 
 returns-5 : tie.Need-returns-5
 unfolding readingOf conditionOf
 returns-5 c =
-    let c5 = c .before .before .before .before .before in
-    let c7 = c5 .before .before in
-    by-reading _ _ (Confine _ _ _ _) _ (ap readingOf (sym (c5 .record5 .given .1)) ∙ c7 .read .ensures) (c .load-in3 .ensures _ _)
+    let q = c .before .before .before .before in
+    let r = q .before .before in
+    let a = r .before .before .before .before .args in
+    by-reading _ _ (Confine _ _ _ _) _ (ap readingOf (sym (r .record5 .given .1)) ∙ r .before .before .read .ensures) (rw (q .rule3 .ensures) at (c .load-in3 .ensures (a .descriptors .now) (a .names .now)))
 
 pub answer-in-spec : {M : Type 1} → statement M
-answer-in-spec =
-    tie.close
-    (tie.spec
-    (λ c κs. search needs)
-    (λ c. search needs)
-    (λ c. search needs)
-    (λ c κs. search needs)
-    (λ c. search needs)
-    (λ c κs. search needs)
-    (λ c. search needs)
-    (λ c. search needs)
-    (λ c κs. search needs)
-    (λ c. search needs)
-    (λ c κs. search needs)
-    returns
-    returns-2
-    returns-3
-    returns-4
-    returns-5)
+answer-in-spec = tie.close (tie.spec (λ c κs. search needs) (λ c. search needs) (λ c. search needs) (λ c κs. search needs) (λ c κs. search needs) (λ c. search needs) (λ c κs. search needs) (λ c κs. search needs) (λ c. search needs) (λ c. search needs) (λ c κs. search needs) (λ c κs. search needs) (λ c. search needs) (λ c κs. search needs) (λ c κs. search needs) returns returns-2 returns-3 returns-4 returns-5)
