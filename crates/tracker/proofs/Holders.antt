@@ -4,7 +4,7 @@ use native.Mathlib.Omega.{arith}
 use native.Mathlib.Numerals.{add-one}
 use native.Mathlib.Decide.{ℕ-discrete, decLt}
 use mathlib.Core.Path.{_≡_, refl, sym, ap, _∙_}
-use mathlib.Core.Bool.{Bool, true, false, _&&_, _||_}
+use mathlib.Core.Bool.{Bool, true, false, _&&_, _||_, and-true, and-false, or-false}
 use mathlib.Core.Option.{none, some}
 use mathlib.Core.List.{List, [], _∷_, _++_}
 use lib.Dec.{eqb, ltb}
@@ -19,18 +19,6 @@ use Rattle.flow.specs.Queries.{refuse, result, itemsQuery, holders, holdersRefu
 use Rattle.flow.proofs.Bools.{by, chosen-l, chosen-r}
 use Rattle.tracker.specs.declared.queries.Reply.the-variants.{Result, Refused}
 use Rattle.tracker.specs.Replies.{replyOf, AnswersHolders, withHolder}
-
-and-none : (a : Bool) → (a && false) ≡ false
-and-none true = refl
-and-none false = refl
-
-and-all : (a : Bool) → a ≡ (a && true)
-and-all true = refl
-and-all false = refl
-
-or-none : (a : Bool) → a ≡ (a || false)
-or-none true = refl
-or-none false = refl
 
 -- ---- the set of the holders
 -- of the first n containers, those that hold item i
@@ -62,7 +50,7 @@ passed x m i c e = chosen-r (has m i) (x ∪ only c) x e
 
 turn-has : (x m i c j : ℕ) → has (withHolder x m i c) j ≡ (has x j || (has m i && eqb c j))
 turn-has x m i c j =
-    by (has m i) (λ e. rw (took x m i c e, union-has x (only c) j, only-has c j, e)) (λ e. rw (passed x m i c e, e) (or-none (has x j)))
+    by (has m i) (λ e. rw (took x m i c e, union-has x (only c) j, only-has c j, e)) (λ e. rw (passed x m i c e, e) (sym (or-false (has x j))))
 
 turn-lt : (x m i c : ℕ) → x < 2 ^ 64 → c < 64 → withHolder x m i c < 2 ^ 64
 turn-lt x m i c h l =
@@ -85,8 +73,8 @@ found-has items i (suc n) j =
         (λ e. let h : n ≤ j = ltb-false j n e in le-ltb j (suc n) (omega arith) ∙ sym e)
 
     go : Dec (n ≡ j) → ((ltb j n && has (getD items j 0) i) || (has (getD items n 0) i && eqb n j)) ≡ (ltb j (suc n) && has (getD items j 0) i)
-    go (yes e) = rw (← e, le-ltb n n (omega arith), lt-ltb n (suc n) (omega arith), eq-eqb n n refl) (sym (and-all (has (getD items n 0) i)))
-    go (no d) = rw (ne-eqb n j d, below d, and-none) (sym (or-none (ltb j n && has (getD items j 0) i)))
+    go (yes e) = rw (← e, le-ltb n n (omega arith), lt-ltb n (suc n) (omega arith), eq-eqb n n refl) (and-true (has (getD items n 0) i))
+    go (no d) = rw (ne-eqb n j d, below d, and-false) (or-false (ltb j n && has (getD items j 0) i))
 
 pub found-all : (s : State) (i : ℕ) → foundTo (s .items) i 64 ≡ holders s i
 unfolding holders holds itemsOf
@@ -107,7 +95,7 @@ moved x c k h m = go (decLt k 64) (ℕ-discrete k c)
   where
     go : Dec (k < 64) → Dec (k ≡ c) → bit (eqb k c) + bit (has (without x c) k) ≡ bit (has x k)
     go (yes l) (yes e) = rw (without-has x c k l, e, eq-eqb c c refl, m)
-    go (yes l) (no d) = rw (without-has x c k l, ne-eqb k c d, ← and-all (has x k)) (omega arith)
+    go (yes l) (no d) = rw (without-has x c k l, ne-eqb k c d, and-true (has x k)) (omega arith)
     go (no l) d =
         rw (past-has x k h (omega arith), past-has (without x c) k (without-lt x c) (omega arith), ne-eqb k c (λ e. omega (arith, has-lt x c h m)))
 

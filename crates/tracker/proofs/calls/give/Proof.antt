@@ -11,7 +11,7 @@ use borrow.Author.Needs.{needs}
 use Rattle.tracker.proofs.calls.give.Statement.{statement}
 use Rattle.tracker.proofs.calls.give.Tie as tie
 
-long : (c : tie.After-sizes) → length (c .before .before .before .before .args .words .now) ≡ 97
+long : (c : tie.After-lengths) → length (c .before .before .before .before .args .words .now) ≡ 97
 long c = search needs
 
 returns : tie.Need-returns

@@ -11,10 +11,10 @@ use borrow.Author.Needs.{needs}
 use Rattle.tracker.proofs.calls.work.Statement.{statement}
 use Rattle.tracker.proofs.calls.work.Tie as tie
 
-long : (c : tie.After-sizes) → length (c .before .before .before .before .before .args .words .now) ≡ 97
+long : (c : tie.After-lengths) → length (c .before .before .before .before .before .args .words .now) ≡ 97
 long c = search needs
 
-named : (c : tie.After-sizes) → length (c .before .before .before .before .before .args .names .now) ≡ 128
+named : (c : tie.After-lengths) → length (c .before .before .before .before .before .args .names .now) ≡ 128
 named c = search needs
 
 returns : tie.Need-returns
