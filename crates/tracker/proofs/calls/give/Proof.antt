@@ -3,7 +3,7 @@ use native.Mathlib.Omega.{arith}
 use mathlib.Core.Path.{_≡_, sym, _∙_}
 use lib.ListN.{length}
 use borrow.Author.Tests.{not-true}
-use Rattle.store.specs.Maps.{view, part}
+use Rattle.store.specs.Maps.{view}
 use Rattle.store.proofs.Parts.{part-length}
 use Rattle.tracker.specs.Worked.{given}
 use Rattle.tracker.proofs.Joined.{quiet-given}

@@ -2,7 +2,7 @@
 use native.Mathlib.Omega.{arith}
 use mathlib.Core.Path.{_≡_, ap, _∙_}
 use lib.ListN.{length}
-use Rattle.store.specs.Maps.{Maps, view, part}
+use Rattle.store.specs.Maps.{Maps, view}
 use Rattle.store.proofs.Parts.{part-length}
 use Rattle.tracker.specs.Rows.{Passes}
 use Rattle.tracker.specs.Worked.{finished}

@@ -1,6 +1,5 @@
 -- `gone` asks for one container after the other, the first apart.
 use native.Mathlib.Omega.{arith}
-use mathlib.Core.Path.{_≡_}
 use Rattle.sets.specs.Sets.{count, _∪_}
 use Rattle.store.specs.Maps.{view}
 use Rattle.sets.proofs.Members.{turn-below, turn-fewer}

@@ -1,10 +1,9 @@
 -- `lost_by` is the table of what a call may end the use of.
 use Prim.Native.Nat.{ℕ}
 use native.Mathlib.Omega.{arith}
-use mathlib.Core.Path.{_≡_, refl, ap, _∙_}
-use mathlib.Core.List.{List, [], _∷_}
+use mathlib.Core.Path.{refl, _∙_}
+use mathlib.Core.List.{[], _∷_}
 use mathlib.Core.Option.{Option}
-use Rattle.sets.specs.Sets.{_∪_}
 use Rattle.flow.specs.Box.{descriptor, name}
 use Rattle.flow.specs.Calls.{Kind}
 use Rattle.flow.specs.Records.{kinds}
