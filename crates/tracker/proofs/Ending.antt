@@ -3,7 +3,7 @@ use Prim.Native.Nat.{ℕ, _-_, _≤_, _<_}
 use native.Mathlib.Omega.{arith}
 use native.Mathlib.Decide.{ℕ-discrete}
 use mathlib.Core.Path.{_≡_, refl, sym, ap, _∙_}
-use mathlib.Core.Bool.{Bool, true, false, not, _&&_, _||_}
+use mathlib.Core.Bool.{true, false, not, _&&_, _||_}
 use mathlib.Core.List.{List}
 use lib.Dec.{eqb}
 use lib.ListN.{getD, length, set, replicate, length-set}
@@ -17,15 +17,15 @@ use Rattle.flow.specs.Links.{mapped, used}
 use Rattle.flow.specs.Calls.{Kind, start, openName, create, pipe, device, dup, close, read, write, truncate, mapRead, mapBoth, unmap, unlink, rename, link, fork, exit, label, Call, isKind, kindNumber, withLive, withDescriptors, withNames, withLinks, putBlock, block, tablesBy}
 use Rattle.flow.specs.Refusals.{ranges, inRange, dead, taken, missing}
 use Rattle.flow.proofs.Bools.{or-elim, or-l, or-r, and-l, and-r, and-i, or-false-l, or-false-r, and-false-l, by, no-both}
-use Rattle.flow.proofs.TableLaws.{some-of, is-in, set-cases}
+use Rattle.flow.proofs.TableLaws.{some-of, some-at, is-in, set-cases}
 use Rattle.flow.proofs.Reach.{process-range}
 use Rattle.flow.proofs.Rows.{target-lt, more-live, still-live}
-use Rattle.flow.proofs.Use.{used-target, used-open, used-mapped, used-process}
-use Rattle.flow.proofs.Accepted.{Accepted, fits-process, fits-a, fits-b}
+use Rattle.flow.proofs.Use.{used-target, used-open, used-mapped, used-process, used-kept}
+use Rattle.flow.proofs.Accepted.{Accepted, fits-a, fits-b}
 use Rattle.store.specs.Maps.{files, fileSet, filesIn}
 use Rattle.tracker.specs.Plans.{heldBy, lostBy}
 use Rattle.store.proofs.Files.{fileSet-has, filesIn-has, filesIn-file, files-has}
-use Rattle.tracker.proofs.Uses.{isIn-set, isIn-stored, block-in, put-kept, some-at, used-kept}
+use Rattle.tracker.proofs.Uses.{isIn-set, isIn-stored, block-in, put-kept}
 
 file-leads : (c : ℕ) → isFile c ≡ true → isTarget c ≡ true
 unfolding isTarget

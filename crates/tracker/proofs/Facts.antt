@@ -2,25 +2,29 @@
 use Prim.Native.Nat.{ℕ, _+_, _<_, _%_}
 use native.Mathlib.Omega.{arith}
 use native.Mathlib.Nat.{mod-eq-of-lt}
-use mathlib.Core.Path.{_≡_}
-use mathlib.Core.Bool.{Bool, true, false, not, false≢true}
-use mathlib.Core.List.{List}
+use native.Mathlib.Decide.{ℕ-discrete}
+use mathlib.Core.Path.{_≡_, refl, sym, ap, _∙_}
+use mathlib.Core.Logic.{_⊎_, inl, inr, ⊎-elim}
+use mathlib.Core.Bool.{true, false, not, false≢true}
+use mathlib.Core.List.{List, [], _∷_}
 use mathlib.Core.Option.{Option, none, some}
-use lib.Dec.{ltb, leb}
+use lib.Dec.{leb}
 use lib.ListN.{getD}
 use borrow.Author.Tests.{ltb-true, eqb-true, not-false}
 use Rattle.flow.specs.Lists.{firstThat}
 use Rattle.flow.specs.Box.{closed, slot, containerOf, isFile, Tables, descriptor, isOpen}
-use Rattle.flow.specs.Calls.{Kind, start, openName, create, pipe, device, dup, close, read, write, truncate, mapRead, mapBoth, unmap, unlink, rename, link, fork, exit, label}
+use Rattle.flow.specs.Calls.{Kind, create, pipe, unmap, fork, label, kindNumber}
 use Rattle.flow.specs.Records.{kinds, kindOf, callBy, callFrom}
-use Rattle.flow.specs.Refusals.{ranges, fieldsFit, inRange, missing, callTests}
+use Rattle.flow.specs.Refusals.{Range, aProcess, unused, ranges, fieldsFit, inRange, missing, callTests}
 use Rattle.flow.proofs.Bools.{and-r}
+use Rattle.flow.proofs.KindLaws.{kind-at}
 use Rattle.flow.proofs.TableLaws.{AllFalse, all-false}
 use Rattle.flow.proofs.Rows.{target-lt}
 use Rattle.flow.proofs.Accepted.{Accepted, fits-process, fits-a, fits-b, fits-c}
 use Rattle.store.specs.Maps.{view}
 use Rattle.tracker.specs.declared.Call.{Call}
-use Rattle.tracker.specs.Rows.{asked, callIn, fitsAt, missingAt, Passes}
+use Rattle.tracker.specs.Rows.{asked, fitsAt, missingAt, Passes}
+use Rattle.tracker.proofs.Arms.{kind-arm, kind-rest}
 
 pub below64 : {x : ℕ} → x < 64 → x % 64 ≡ x
 below64 h = mod-eq-of-lt h
@@ -28,28 +32,26 @@ below64 h = mod-eq-of-lt h
 pub below16 : {x : ℕ} → x < 16 → x % 64 ≡ x
 below16 h = mod-eq-of-lt (omega arith)
 
+-- ---- the process field
+unfoldable rangeAt : Option Kind → Range
+rangeAt none = aProcess
+rangeAt (some k) = ranges k .process
+
+-- a label does not use it, and every other kind's is a process
+process-range : (k : Kind) → (ranges k .process ≡ aProcess) ⊎ (ranges k .process ≡ unused)
+unfolding rangeAt ranges kinds
+process-range k = go (ℕ-discrete (kindNumber k) 19)
+  where
+    go : Dec (kindNumber k ≡ 19) → (ranges k .process ≡ aProcess) ⊎ (ranges k .process ≡ unused)
+    go (yes e) = inr (sym (kind-arm rangeAt (19 ∷ []) unused refl (kindNumber k) e ∙ ap rangeAt (kind-at k)))
+    go (no d) = inl (sym (kind-rest rangeAt ((19 ∷ []) ∷ []) refl (kindNumber k) (tt, d) ∙ ap rangeAt (kind-at k)))
+
 module _ (q : Call) where
   pub fit-process : (k : Kind) → fieldsFit (ranges k) (asked q k) ≡ true → q .process < 16
-  unfolding ranges inRange
-  fit-process start h = ltb-true _ _ (fits-process (ranges start) (asked q start) h)
-  fit-process openName h = ltb-true _ _ (fits-process (ranges openName) (asked q openName) h)
-  fit-process create h = ltb-true _ _ (fits-process (ranges create) (asked q create) h)
-  fit-process pipe h = ltb-true _ _ (fits-process (ranges pipe) (asked q pipe) h)
-  fit-process device h = ltb-true _ _ (fits-process (ranges device) (asked q device) h)
-  fit-process dup h = ltb-true _ _ (fits-process (ranges dup) (asked q dup) h)
-  fit-process close h = ltb-true _ _ (fits-process (ranges close) (asked q close) h)
-  fit-process read h = ltb-true _ _ (fits-process (ranges read) (asked q read) h)
-  fit-process write h = ltb-true _ _ (fits-process (ranges write) (asked q write) h)
-  fit-process truncate h = ltb-true _ _ (fits-process (ranges truncate) (asked q truncate) h)
-  fit-process mapRead h = ltb-true _ _ (fits-process (ranges mapRead) (asked q mapRead) h)
-  fit-process mapBoth h = ltb-true _ _ (fits-process (ranges mapBoth) (asked q mapBoth) h)
-  fit-process unmap h = ltb-true _ _ (fits-process (ranges unmap) (asked q unmap) h)
-  fit-process unlink h = ltb-true _ _ (fits-process (ranges unlink) (asked q unlink) h)
-  fit-process rename h = ltb-true _ _ (fits-process (ranges rename) (asked q rename) h)
-  fit-process link h = ltb-true _ _ (fits-process (ranges link) (asked q link) h)
-  fit-process fork h = ltb-true _ _ (fits-process (ranges fork) (asked q fork) h)
-  fit-process exit h = ltb-true _ _ (fits-process (ranges exit) (asked q exit) h)
-  fit-process label h = let z : q .process ≡ 0 = eqb-true _ _ (fits-process (ranges label) (asked q label) h) in omega arith
+  unfolding inRange
+  fit-process k h =
+      let f = fits-process (ranges k) (asked q k) h in
+      ⊎-elim (λ e. ltb-true _ _ (rw e at f)) (λ e. let z : q .process ≡ 0 = eqb-true _ _ (rw e at f) in omega arith) (process-range k)
 
   at-process : (o : Option Kind) → fitsAt q o ≡ true → q .process < 16
   unfolding fitsAt

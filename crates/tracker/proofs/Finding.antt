@@ -1,22 +1,19 @@
 -- The containers that are not in use, and those that no link leads into, as sets.
-use Prim.Native.Nat.{ℕ, _+_, _%_, _^_, _≤_, _<_}
+use Prim.Native.Nat.{ℕ, _%_, _^_, _<_}
 use native.Mathlib.Omega.{arith}
 use native.Mathlib.Nat.{mod-eq-of-lt}
 use native.Mathlib.Decide.{ℕ-discrete}
-use mathlib.Core.Path.{_≡_, refl, sym, ap, ap₂, _∙_}
-use mathlib.Core.Bool.{Bool, true, false, not, _&&_, _||_, or-false, and-comm, and-or-distrib-left}
-use mathlib.Core.List.{List, [], _∷_}
+use mathlib.Core.Path.{_≡_, refl, sym, ap, _∙_}
+use mathlib.Core.Bool.{Bool, true, false, not, _&&_, _||_, or-false, and-comm}
 use lib.Bits.{or-zero-l}
-use lib.Dec.{ltb, leb, eqb}
-use lib.ListN.{length, getD, take}
-use borrow.Author.Tests.{ltb-true, leb-true, eqb-true, eq-eqb, ne-eqb}
-use Rattle.sets.specs.Sets.{has, only, bit, thoseFrom, those, without, _∪_, lowest}
-use Rattle.sets.proofs.Members.{union-has, only-has, none-has, those-has, those-lt, union-lt, only-lt, set-ext, eqb-sym, without-lt}
+use lib.Dec.{eqb}
+use borrow.Author.Tests.{eq-eqb, ne-eqb}
+use Rattle.sets.specs.Sets.{has, only, those, without, _∪_, lowest}
+use Rattle.sets.proofs.Members.{union-has, only-has, none-has, those-has, those-lt, union-lt, only-lt, set-ext, without-lt, without-at, without-other, turn-below, member}
 use Rattle.flow.specs.Box.{Tables}
 use Rattle.flow.specs.Links.{isFed, used}
-use Rattle.flow.proofs.Bools.{and-l, and-r, by, no-both, chosen-l, chosen-r}
+use Rattle.flow.proofs.Bools.{by, chosen-l, chosen-r}
 use Rattle.tracker.specs.Plans.{freeSet, unusedSet, goneOf}
-use Rattle.store.proofs.Worklist.{without-at, without-other, turn-below, member}
 
 -- ---- what no link leads into
 pub free-none : (s : Tables) (c v : ℕ) → isFed s c ≡ true → 0 ≡ freeSet s c v

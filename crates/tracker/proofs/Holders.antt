@@ -1,38 +1,24 @@
 -- For the queries: the set of the holders, built container by container; a slice into which the members of a set go, the lowest first; the answers.
-use Prim.Native.Nat.{ℕ, zero, suc, _+_, _*_, _/_, _%_, _^_, _≤_, _<_, zero-le}
+use Prim.Native.Nat.{ℕ, zero, suc, _+_, _%_, _^_, _≤_, _<_, zero-le}
 use native.Mathlib.Omega.{arith}
 use native.Mathlib.Numerals.{add-one}
 use native.Mathlib.Decide.{ℕ-discrete, decLt}
 use mathlib.Core.Path.{_≡_, refl, sym, ap, _∙_}
-use mathlib.Core.Bool.{Bool, true, false, not, _&&_, _||_}
-use mathlib.Core.Option.{Option, none, some}
+use mathlib.Core.Bool.{true, false, _&&_, _||_, and-true, and-false, or-false}
+use mathlib.Core.Option.{none, some}
 use mathlib.Core.List.{List, [], _∷_, _++_}
 use lib.Dec.{eqb, ltb}
-use lib.Count.{ones, ones-step, ones-le}
 use lib.ListN.{length, take, drop, getD, set, length-set}
 use lib.Seq.{take-suc-set, drop-set-lt, drop-drop}
 use borrow.Author.Tests.{eq-eqb, ne-eqb, lt-ltb, le-ltb, lt-leb, le-leb, ltb-true, ltb-false}
-use Rattle.sets.specs.Sets.{has, only, _∪_, bit, thoseFrom, those, without, count, lowest}
-use Rattle.sets.proofs.Members.{those-has, those-lt, without-has, without-lt, none-has, only-has, only-lt, union-has, union-lt, past-has, has-lt, set-ext, lowest-has}
+use Rattle.sets.specs.Sets.{has, only, _∪_, bit, those, without, count, lowest}
+use Rattle.sets.proofs.Members.{those-has, those-lt, without-has, without-lt, none-has, only-has, only-lt, union-has, union-lt, past-has, has-lt, set-ext, count-less, count-none, member, turn-below, itself, turn-fewer}
 use Rattle.flow.specs.Lists.{firstThat}
 use Rattle.flow.specs.Box.{State, itemsOf, holds}
 use Rattle.flow.specs.Queries.{refuse, result, itemsQuery, holders, holdersRefusal, replyBy, holdersQuery, occurs, Lists, SliceBy, HoldersSlice}
 use Rattle.flow.proofs.Bools.{by, chosen-l, chosen-r}
-use Rattle.tracker.specs.declared.queries.Reply.{Reply}
 use Rattle.tracker.specs.declared.queries.Reply.the-variants.{Result, Refused}
 use Rattle.tracker.specs.Replies.{replyOf, AnswersHolders, withHolder}
-
-and-none : (a : Bool) → (a && false) ≡ false
-and-none true = refl
-and-none false = refl
-
-and-all : (a : Bool) → a ≡ (a && true)
-and-all true = refl
-and-all false = refl
-
-or-none : (a : Bool) → a ≡ (a || false)
-or-none true = refl
-or-none false = refl
 
 -- ---- the set of the holders
 -- of the first n containers, those that hold item i
@@ -64,7 +50,7 @@ passed x m i c e = chosen-r (has m i) (x ∪ only c) x e
 
 turn-has : (x m i c j : ℕ) → has (withHolder x m i c) j ≡ (has x j || (has m i && eqb c j))
 turn-has x m i c j =
-    by (has m i) (λ e. rw (took x m i c e, union-has x (only c) j, only-has c j, e)) (λ e. rw (passed x m i c e, e) (or-none (has x j)))
+    by (has m i) (λ e. rw (took x m i c e, union-has x (only c) j, only-has c j, e)) (λ e. rw (passed x m i c e, e) (sym (or-false (has x j))))
 
 turn-lt : (x m i c : ℕ) → x < 2 ^ 64 → c < 64 → withHolder x m i c < 2 ^ 64
 turn-lt x m i c h l =
@@ -87,58 +73,14 @@ found-has items i (suc n) j =
         (λ e. let h : n ≤ j = ltb-false j n e in le-ltb j (suc n) (omega arith) ∙ sym e)
 
     go : Dec (n ≡ j) → ((ltb j n && has (getD items j 0) i) || (has (getD items n 0) i && eqb n j)) ≡ (ltb j (suc n) && has (getD items j 0) i)
-    go (yes e) = rw (← e, le-ltb n n (omega arith), lt-ltb n (suc n) (omega arith), eq-eqb n n refl) (sym (and-all (has (getD items n 0) i)))
-    go (no d) = rw (ne-eqb n j d, below d, and-none) (sym (or-none (ltb j n && has (getD items j 0) i)))
+    go (yes e) = rw (← e, le-ltb n n (omega arith), lt-ltb n (suc n) (omega arith), eq-eqb n n refl) (and-true (has (getD items n 0) i))
+    go (no d) = rw (ne-eqb n j d, below d, and-false) (or-false (ltb j n && has (getD items j 0) i))
 
 pub found-all : (s : State) (i : ℕ) → foundTo (s .items) i 64 ≡ holders s i
 unfolding holders holds itemsOf
 found-all s i =
     set-ext (foundTo (s .items) i 64) (those (λ c. has (getD (s .items) c 0) i)) (found-lt (s .items) i 64 (omega arith)) (those-lt (λ c. has (getD (s .items) c 0) i))
     (λ j h. found-has (s .items) i 64 j ∙ rw (lt-ltb j 64 h) (sym (those-has (λ c. has (getD (s .items) c 0) i) j h)))
-
--- ---- how many members: with one taken out, one fewer
-ones-more : (n k : ℕ) (f : ℕ → Bool) → ones (thoseFrom (suc n) k f) ≡ bit (f k) + ones (thoseFrom n (suc k) f)
-unfolding thoseFrom bit
-ones-more n k f = go (f k) (thoseFrom n (suc k) f)
-  where
-    go : (b : Bool) (m : ℕ) → ones (bit b + 2 * m) ≡ bit b + ones m
-    go true m =
-        let e : (1 + 2 * m) / 2 ≡ m = omega arith in
-        omega (arith, ones-step (1 + 2 * m), ap ones e)
-    go false m =
-        let e : (0 + 2 * m) / 2 ≡ m = omega arith in
-        omega (arith, ones-step (0 + 2 * m), ap ones e)
-
-same-those : (n k : ℕ) (f g : ℕ → Bool) → ((j : ℕ) → k ≤ j → f j ≡ g j) → thoseFrom n k f ≡ thoseFrom n k g
-unfolding thoseFrom
-same-those zero k f g e = refl
-same-those (suc n) k f g e = rw (e k (omega arith), same-those n (suc k) f g (λ j h. e j (omega arith)))
-
-less : (f : ℕ → Bool) (c : ℕ) → f c ≡ true → (n k : ℕ) → k ≤ c → c < k + n
-    → ones (thoseFrom n k f) ≡ ones (thoseFrom n k (λ j. f j && not (eqb j c))) + 1
-unfolding bit
-less f c m zero k h l = absurd (omega arith)
-less f c m (suc n) k h l =
-    rw (ones-more n k f, ones-more n k (λ j. f j && not (eqb j c)))
-    (go (λ a. less f c m n (suc k) a (omega arith)) (ℕ-discrete k c))
-  where
-    rest : (n k : ℕ) → c < k → thoseFrom n k f ≡ thoseFrom n k (λ j. f j && not (eqb j c))
-    rest n k h = same-those n k f (λ j. f j && not (eqb j c)) (λ j l. rw (ne-eqb j c (λ e. omega arith)) (and-all (f j)))
-
-    go : (suc k ≤ c → ones (thoseFrom n (suc k) f) ≡ ones (thoseFrom n (suc k) (λ j. f j && not (eqb j c))) + 1) → Dec (k ≡ c)
-        → bit (f k) + ones (thoseFrom n (suc k) f) ≡ bit (f k && not (eqb k c)) + ones (thoseFrom n (suc k) (λ j. f j && not (eqb j c))) + 1
-    go later (yes e) = rw (e, m, eq-eqb c c refl, rest n (suc c) (omega arith)) (omega arith)
-    go later (no d) = rw (ne-eqb k c d, ← and-all (f k)) (omega (arith, later (omega arith)))
-
-pub count-less : (x c : ℕ) → x < 2 ^ 64 → has x c ≡ true → count x ≡ count (without x c) + 1
-unfolding count without those
-count-less x c h m =
-    ap ones (set-ext x (thoseFrom 64 0 (has x)) h (those-lt (has x)) (λ i l. sym (those-has (has x) i l)))
-    ∙ less (has x) c m 64 0 zero-le (has-lt x c h m)
-
-count-none : count 0 ≡ 0
-unfolding count
-count-none = omega (arith, ones-le 0 0 (omega arith))
 
 -- ---- the slice, by the loop that fills it
 occurs-snoc : (k c : ℕ) (l : List ℕ) → occurs k (l ++ (c ∷ [])) ≡ occurs k l + bit (eqb k c)
@@ -153,7 +95,7 @@ moved x c k h m = go (decLt k 64) (ℕ-discrete k c)
   where
     go : Dec (k < 64) → Dec (k ≡ c) → bit (eqb k c) + bit (has (without x c) k) ≡ bit (has x k)
     go (yes l) (yes e) = rw (without-has x c k l, e, eq-eqb c c refl, m)
-    go (yes l) (no d) = rw (without-has x c k l, ne-eqb k c d, ← and-all (has x k)) (omega arith)
+    go (yes l) (no d) = rw (without-has x c k l, ne-eqb k c d, and-true (has x k)) (omega arith)
     go (no l) d =
         rw (past-has x k h (omega arith), past-has (without x c) k (without-lt x c) (omega arith), ne-eqb k c (λ e. omega (arith, has-lt x c h m)))
 
@@ -178,17 +120,14 @@ pub record Turn (x : ℕ) (before now : List ℕ) (left n c : ℕ) : Type 0 wher
 
 module _ (x : ℕ) (before now : List ℕ) (left n : ℕ) (p : Partly x before now left n) where
   module _ (more : left ≡ 0 → ⊥) (fits : count x ≤ length before) (c : ℕ) (is : c ≡ lowest left) where
-    member : has left c ≡ true
-    member = rw is (lowest-has left (p .small) (omega (arith, more)))
+    there : has left c ≡ true
+    there = member left (p .small) more c is
 
     one-less : count left ≡ count (without left c) + 1
-    one-less = count-less left c (p .small) member
+    one-less = count-less left c (p .small) there
 
     in-range : n < length now
     in-range = omega (arith, one-less)
-
-    same : c % 64 ≡ c
-    same = omega (arith, has-lt left c (p .small) member)
 
     after : Partly x before (set now n c) (without left c) (n + 1)
     after =
@@ -198,17 +137,17 @@ module _ (x : ℕ) (before now : List ℕ) (left n : ℕ) (p : Partly x before n
           long = length-set now n c ∙ p .long;
           listed = λ k.
               rw (add-one, take-suc-set now n c in-range, occurs-snoc k c (take n now))
-              (omega (arith, moved left c k (p .small) member, p .listed k));
+              (omega (arith, moved left c k (p .small) there, p .listed k));
           rest = drop-set-lt (n + 1) now n c (omega arith) ∙ sym (drop-drop 1 n now) ∙ ap (drop 1) (p .rest) ∙ drop-drop 1 n before;
         }
 
     pub partly-more : Turn x before now left n c
     partly-more =
         record {
-          below = has-lt left c (p .small) member;
+          below = turn-below left (p .small) more c is;
           room = in-range;
-          fewer = λ later e. rw (e, same) (omega (arith, one-less));
-          next = λ later e. rw (e, same) after;
+          fewer = turn-fewer left (p .small) more c is;
+          next = λ later e. rw (e, itself left (p .small) more c is) after;
         }
 
   module _ (over : left ≡ 0) where

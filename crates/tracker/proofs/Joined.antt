@@ -10,9 +10,9 @@ use lib.Bits.{or-zero-l}
 use lib.ListN.{length, getD}
 use lib.Seq.{ext-getD}
 use borrow.Author.Tests.{ltb-true, eqb-true, eq-eqb, ne-eqb}
-use Rattle.sets.specs.Sets.{has, only, those, _∪_}
+use Rattle.sets.specs.Sets.{has, only, _∪_}
 use Rattle.sets.proofs.Members.{those-has, none-has, only-has, union-has, without-has, eqb-sym}
-use Rattle.flow.specs.Lists.{firstThat, refusalFrom, table}
+use Rattle.flow.specs.Lists.{firstThat, refusalFrom}
 use Rattle.flow.specs.Box.{containerOf, Tables, descriptor}
 use Rattle.flow.specs.Links.{reach, given, isFed, used}
 use Rattle.flow.specs.Calls.{Kind, start, openName, create, pipe, device, dup, close, read, write, truncate, mapRead, mapBoth, unmap, unlink, rename, link, fork, exit, label, Call as Asked, Flow, still, gift, arrival, exchange, copy, clear, Change, withLive, withLinks, withDescriptors, tablesBy, flowBy, change, moved, ended, itemsAfter}
@@ -25,7 +25,7 @@ use Rattle.flow.proofs.Rows.{now-live}
 use Rattle.flow.proofs.Use.{used-process}
 use Rattle.flow.proofs.Accepted.{Accepted, fits-a}
 use Rattle.store.specs.declared.Plan.{Plan}
-use Rattle.store.specs.Maps.{Maps, withTables, withItems, changed, view, cleared, itemsBy}
+use Rattle.store.specs.Maps.{Maps, withItems, changed, view, cleared, itemsBy}
 use Rattle.store.proofs.Words.{by-length}
 use Rattle.tracker.specs.declared.Call.{Call}
 use Rattle.tracker.specs.Rows.{asked, callIn, tablesAt, Passes}

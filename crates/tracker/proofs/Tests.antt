@@ -1,16 +1,16 @@
 -- The rows together decide as the list of tests does.
 use Prim.Native.Nat.{ℕ}
-use mathlib.Core.Path.{_≡_, refl, sym, ap, _∙_}
+use mathlib.Core.Path.{_≡_, refl}
 use mathlib.Core.Bool.{Bool, true, false, not, true≢false, false≢true}
-use mathlib.Core.List.{List, [], _∷_}
+use mathlib.Core.List.{[], _∷_}
 use mathlib.Core.Option.{Option, none, some}
 use Rattle.flow.specs.Lists.{_⇒_, firstThat, refusalFrom}
 use Rattle.flow.specs.Box.{Tables}
 use Rattle.flow.specs.Calls.{Kind, Call as Asked}
 use Rattle.flow.specs.Records.{kindOf, callBy, callFrom}
-use Rattle.flow.specs.Refusals.{fieldsFit, ranges, dead, taken, missing, sameDescriptors, noFile, callTests}
+use Rattle.flow.specs.Refusals.{dead, taken, missing, callTests}
 use Rattle.tracker.specs.declared.Call.{Call}
-use Rattle.tracker.specs.Rows.{asked, callIn, known, fitsAt, deadAt, takenAt, missingAt, sameAt, noFileAt}
+use Rattle.tracker.specs.Rows.{callIn, known, fitsAt, deadAt, takenAt, missingAt, sameAt, noFileAt}
 
 -- the number of the first that holds of dead process, taken, missing, same twice and no file, and 0 where none holds
 unfoldable lowestOf : Bool → Bool → Bool → Bool → Bool → ℕ

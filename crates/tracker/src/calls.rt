@@ -9,7 +9,6 @@ use crate::rows::refusal;
 use crate::tables::change_tables;
 use store::cells::empty_items;
 use store::cells::make_items;
-use store::sizes;
 ghost use mathlib.Core.Path.{_≡_};
 ghost use Rattle.flow.specs.Lists.{refusalFrom};
 ghost use Rattle.store.specs.Maps.{mapsBefore, mapsAfter};
@@ -21,7 +20,7 @@ fn give(words: &mut [u64; 97], descriptors: &[u8; 512], names: &[u8; 128], q: Ca
     requires { ⌜ Passes (now words) (now descriptors) (now names) q ⌝ }
     ensures { λ _. ⌜ (let m = mapsBefore words descriptors names in mapsAfter words descriptors names ≡ given m q) ⌝ }
 {
-    sizes(words, names);
+    sets::lengths(words, names);
     if !gives(q.kind) {
         return;
     }
@@ -50,7 +49,7 @@ pub fn work(
 ) -> u8
     ensures { λ r. ⌜ done (refusalFrom r) (mapsAfter words descriptors names) ≡ worked (mapsBefore words descriptors names) (callIn q) ⌝ }
 {
-    sizes(words, names);
+    sets::lengths(words, names);
     let n = refusal(words, descriptors, names, q);
     if n != 0 {
         return n;

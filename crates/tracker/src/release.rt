@@ -14,7 +14,7 @@ use store::numbers::Container;
 use store::numbers::Descriptor;
 use store::numbers::Name;
 use store::numbers::Process;
-ghost use Prim.Native.Nat.{ℕ, _%_, _<_};
+ghost use Prim.Native.Nat.{ℕ, _%_};
 ghost use mathlib.Core.Path.{_≡_};
 ghost use mathlib.Core.List.{List};
 ghost use Rattle.flow.specs.Records.{kindOf};
@@ -24,7 +24,6 @@ ghost use Rattle.tracker.specs.Plans.{heldBy, lostAt, freeSet, emptiedAt
 
 // The files and pipes that process p leads to or maps.
 fn held_by(words: &[u64; 97], descriptors: &[u8; 512], p: u8) -> u64
-    requires { ⌜ p < 16 ⌝ }
     ensures { λ r. ⌜ ((n : List ℕ) → r ≡ heldBy (view (now (words .entry)) (now (descriptors .entry)) n .tables) p) ⌝ }
 {
     block_files(descriptors, Process(p))

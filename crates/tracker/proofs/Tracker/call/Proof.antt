@@ -1,5 +1,5 @@
 -- `Tracker::call` answers as document 01 says.
-use mathlib.Core.Path.{refl, sym, ap, _∙_}
+use mathlib.Core.Path.{refl}
 use borrow.Author.Needs.{needs}
 use Rattle.tracker.specs.Calling.{refusalOf}
 use Rattle.tracker.proofs.Joined.{refused-call, made-done}

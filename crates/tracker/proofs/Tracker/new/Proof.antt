@@ -4,7 +4,6 @@ use Rattle.flow.specs.Box.{noTables, fresh}
 use Rattle.store.specs.Maps.{part, view}
 use Rattle.tracker.proofs.Tracker.new.Statement.{statement}
 use Rattle.tracker.proofs.Tracker.new.Tie as tie
-use borrow.Author.Needs.{needs}
 
 returns : tie.Need-returns
 unfolding view part fresh noTables

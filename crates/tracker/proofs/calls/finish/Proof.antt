@@ -1,5 +1,5 @@
 -- `finish` stores the tables, then empties.
-use mathlib.Core.Path.{_≡_, refl, _∙_}
+use mathlib.Core.Path.{refl, _∙_}
 use Rattle.tracker.specs.Worked.{finished}
 use borrow.Author.Needs.{needs}
 use Rattle.tracker.proofs.calls.finish.Statement.{statement}

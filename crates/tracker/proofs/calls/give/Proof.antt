@@ -3,7 +3,7 @@ use native.Mathlib.Omega.{arith}
 use mathlib.Core.Path.{_≡_, sym, _∙_}
 use lib.ListN.{length}
 use borrow.Author.Tests.{not-true}
-use Rattle.store.specs.Maps.{view, part}
+use Rattle.store.specs.Maps.{view}
 use Rattle.store.proofs.Parts.{part-length}
 use Rattle.tracker.specs.Worked.{given}
 use Rattle.tracker.proofs.Joined.{quiet-given}
@@ -11,7 +11,7 @@ use borrow.Author.Needs.{needs}
 use Rattle.tracker.proofs.calls.give.Statement.{statement}
 use Rattle.tracker.proofs.calls.give.Tie as tie
 
-long : (c : tie.After-sizes) → length (c .before .before .before .before .args .words .now) ≡ 97
+long : (c : tie.After-lengths) → length (c .before .before .before .before .args .words .now) ≡ 97
 long c = search needs
 
 returns : tie.Need-returns

@@ -1,5 +1,5 @@
 -- `gives` is the row of the kinds that give.
-use mathlib.Core.Path.{_≡_, refl}
+use mathlib.Core.Path.{refl}
 use mathlib.Core.List.{[], _∷_}
 use Rattle.flow.specs.Records.{kinds}
 use Rattle.tracker.specs.Plans.{givesBy, givesAt}

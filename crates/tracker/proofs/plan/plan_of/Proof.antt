@@ -1,8 +1,7 @@
 -- `plan_of` is the table of flows, as gifts.
-use Prim.Native.Nat.{ℕ}
 use native.Mathlib.Omega.{arith}
-use mathlib.Core.Path.{_≡_, refl, _∙_}
-use mathlib.Core.List.{List, [], _∷_}
+use mathlib.Core.Path.{refl, _∙_}
+use mathlib.Core.List.{[], _∷_}
 use mathlib.Core.Option.{Option}
 use Rattle.sets.specs.Sets.{_∪_}
 use Rattle.flow.specs.Box.{descriptor}

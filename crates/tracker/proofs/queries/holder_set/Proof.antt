@@ -1,6 +1,6 @@
 -- `holder_set` makes the set of the containers that hold the item: after c turns it is those of the first c containers.
 use Prim.Native.Nat.{_-_, _%_, _≤_}
-use mathlib.Core.Path.{_≡_, sym, ap, _∙_}
+use mathlib.Core.Path.{_≡_, sym, _∙_}
 use native.Mathlib.Omega.{arith}
 use borrow.Author.Needs.{needs}
 use Rattle.store.specs.Maps.{part, view}

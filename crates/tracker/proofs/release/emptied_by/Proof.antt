@@ -1,7 +1,7 @@
 -- `emptied_by` is the table of what a call empties.
 use Prim.Native.Nat.{ℕ}
 use native.Mathlib.Omega.{arith}
-use mathlib.Core.Path.{_≡_, refl, _∙_}
+use mathlib.Core.Path.{refl}
 use mathlib.Core.List.{[], _∷_}
 use mathlib.Core.Option.{Option}
 use Rattle.sets.specs.Sets.{_∪_}

@@ -1,9 +1,8 @@
 -- `gone` asks for one container after the other, the first apart.
 use native.Mathlib.Omega.{arith}
-use mathlib.Core.Path.{_≡_}
 use Rattle.sets.specs.Sets.{count, _∪_}
 use Rattle.store.specs.Maps.{view}
-use Rattle.store.proofs.Worklist.{turn-below, turn-fewer}
+use Rattle.sets.proofs.Members.{turn-below, turn-fewer}
 use Rattle.tracker.proofs.Finding.{Finding, finding-start, finding-first, finding-more, finding-end}
 use borrow.Author.Needs.{needs}
 use Rattle.tracker.proofs.release.gone.Statement.{statement}

@@ -1,33 +1,22 @@
 -- `lost_by` is the table of what a call may end the use of.
 use Prim.Native.Nat.{ℕ}
 use native.Mathlib.Omega.{arith}
-use mathlib.Core.Path.{_≡_, refl, ap, _∙_}
-use mathlib.Core.List.{List, [], _∷_}
+use mathlib.Core.Path.{refl, _∙_}
+use mathlib.Core.List.{[], _∷_}
 use mathlib.Core.Option.{Option}
-use Rattle.sets.specs.Sets.{_∪_}
 use Rattle.flow.specs.Box.{descriptor, name}
 use Rattle.flow.specs.Calls.{Kind}
 use Rattle.flow.specs.Records.{kinds}
 use Rattle.store.specs.Maps.{view}
 use Rattle.tracker.proofs.Arms.{kind-arm, kind-rest}
 use Rattle.tracker.specs.Plans.{lostBy, lostAt}
-use Rattle.tracker.proofs.Facts.{process-lt, process-itself, fork-other}
+use Rattle.tracker.proofs.Facts.{process-lt, process-itself}
 use borrow.Author.Needs.{needs}
 use Rattle.tracker.proofs.release.lost_by.Statement.{statement}
 use Rattle.tracker.proofs.release.lost_by.Tie as tie
 
 abbrev row : tie.Start → Option Kind → ℕ
 row c = lostAt (view (c .args .words .now) (c .args .descriptors .now) (c .args .names .now) .tables) (c .args .q)
-
-held-by-requires : tie.Need-held-by-requires
-held-by-requires c κs =
-    let c1 = c .before in
-    fork-other (c1 .pre) (c .match .keys5)
-
-held-by-requires-2 : tie.Need-held-by-requires-2
-held-by-requires-2 c κs =
-    let c1 = c .before in
-    process-lt (c1 .pre)
 
 add-with : tie.Need-add-with
 add-with c =
@@ -97,8 +86,8 @@ lost-by-spec =
     (λ c κs. search needs)
     (λ c κs. search needs)
     (λ c κs. search needs)
-    held-by-requires
-    held-by-requires-2
+    (λ c κs. search needs)
+    (λ c κs. search needs)
     add-with
     (λ c κs. search needs)
     returns

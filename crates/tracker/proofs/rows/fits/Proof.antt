@@ -12,7 +12,6 @@ use Rattle.tracker.specs.Rows.{fitsAt}
 use Rattle.tracker.proofs.Arms.{kind-arm, kind-between, kind-from}
 use Rattle.tracker.proofs.rows.fits.Statement.{statement}
 use Rattle.tracker.proofs.rows.fits.Tie as tie
-use borrow.Author.Needs.{needs}
 
 abbrev row : tie.Start → Option Kind → Bool
 row c = fitsAt (c .args .q)

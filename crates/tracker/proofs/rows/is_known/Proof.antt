@@ -7,7 +7,6 @@ use Rattle.tracker.specs.Rows.{known}
 use Rattle.tracker.proofs.Arms.{kind-arm, kind-between, kind-from}
 use Rattle.tracker.proofs.rows.is_known.Statement.{statement}
 use Rattle.tracker.proofs.rows.is_known.Tie as tie
-use borrow.Author.Needs.{needs}
 
 returns : tie.Need-returns
 unfolding known kinds

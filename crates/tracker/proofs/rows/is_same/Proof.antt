@@ -10,7 +10,6 @@ use Rattle.tracker.specs.Rows.{sameAt}
 use Rattle.tracker.proofs.Arms.{kind-arm, kind-rest}
 use Rattle.tracker.proofs.rows.is_same.Statement.{statement}
 use Rattle.tracker.proofs.rows.is_same.Tie as tie
-use borrow.Author.Needs.{needs}
 
 abbrev row : tie.Start → Option Kind → Bool
 row c = sameAt (c .args .q)

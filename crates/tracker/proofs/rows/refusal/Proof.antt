@@ -4,7 +4,7 @@ use mathlib.Core.Bool.{true, false}
 use borrow.Author.Tests.{not-true, not-false}
 use Rattle.flow.specs.Records.{kindOf}
 use Rattle.store.specs.Maps.{view}
-use Rattle.tracker.specs.Rows.{fitsAt, deadAt, takenAt, missingAt, sameAt}
+use Rattle.tracker.specs.Rows.{fitsAt, deadAt, takenAt, missingAt}
 use Rattle.tracker.proofs.Tests.{four-first, five-first, six-first, seven-first, eight-first, nine-first, ten-first, none-first}
 use borrow.Author.Needs.{needs}
 use Rattle.tracker.proofs.rows.refusal.Statement.{statement}

@@ -1,6 +1,6 @@
 -- `change_tables` is the table of calls, less the items.
-use mathlib.Core.Path.{_≡_, refl, _∙_}
-use mathlib.Core.List.{List, [], _∷_}
+use mathlib.Core.Path.{refl, _∙_}
+use mathlib.Core.List.{[], _∷_}
 use mathlib.Core.Option.{Option}
 use Rattle.flow.specs.Box.{descriptor, name, feedersOf, feeds}
 use Rattle.flow.specs.Calls.{Kind, withLive, withLinks, withDescriptors, withNames, tablesBy}

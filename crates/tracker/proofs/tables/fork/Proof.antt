@@ -1,6 +1,6 @@
 -- Links, live processes and descriptors, one after the other.
 use native.Mathlib.Nat.{mod-eq-of-lt}
-use mathlib.Core.Path.{_≡_, refl, ap, _∙_}
+use mathlib.Core.Path.{refl, ap, _∙_}
 use Rattle.flow.specs.Box.{feedersOf, feeds}
 use Rattle.flow.specs.Calls.{withLive, withLinks, withDescriptors, tablesBy}
 use Rattle.store.specs.Maps.{Maps, withTables, view}

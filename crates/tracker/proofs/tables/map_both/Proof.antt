@@ -1,8 +1,7 @@
 -- Two links of a process more.
 use native.Mathlib.Nat.{mod-eq-of-lt}
-use mathlib.Core.Path.{_≡_, refl, _∙_}
+use mathlib.Core.Path.{refl, _∙_}
 use Rattle.flow.specs.Box.{feedersOf, feeds}
-use Rattle.flow.specs.Calls.{withLinks}
 use Rattle.store.specs.Maps.{view}
 use borrow.Author.Needs.{needs}
 use Rattle.tracker.proofs.tables.map_both.Statement.{statement}

@@ -1,5 +1,5 @@
 -- Two names are set.
-use mathlib.Core.Path.{_≡_, refl}
+use mathlib.Core.Path.{refl}
 use borrow.Author.Needs.{needs}
 use Rattle.tracker.proofs.tables.rename.Statement.{statement}
 use Rattle.tracker.proofs.tables.rename.Tie as tie

@@ -1,5 +1,5 @@
 -- One more process is live.
-use mathlib.Core.Path.{_≡_, refl, _∙_}
+use mathlib.Core.Path.{refl, _∙_}
 use Rattle.store.specs.Maps.{view}
 use Rattle.tracker.proofs.Facts.{below16}
 use borrow.Author.Needs.{needs}
