@@ -1,5 +1,5 @@
 -- `call_in` refuses, gives what no rule stops, and makes the rest.
-use mathlib.Core.Path.{_≡_, sym, _∙_}
+use mathlib.Core.Path.{_≡_}
 use lib.ListN.{length}
 use Rattle.decision.specs.declared.Monitor.{Monitor}
 use Rattle.decision.specs.View.{monitor}
