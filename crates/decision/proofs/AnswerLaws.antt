@@ -1,26 +1,24 @@
 -- Each case of an answer, and what is known where it is given.
-use Prim.Native.Nat.{ℕ, zero, suc, _<_}
+use Prim.Native.Nat.{ℕ}
 use native.Mathlib.Omega.{arith}
 use mathlib.Core.Path.{_≡_, refl, sym, ap, subst, _∙_}
-use mathlib.Core.Logic.{_↔_}
-use mathlib.Core.Bool.{Bool, true, false}
-use mathlib.Core.List.{List, [], _∷_, _++_}
+use mathlib.Core.Bool.{false}
+use mathlib.Core.List.{List}
 use mathlib.Core.Option.{Option, none, some}
 use lib.ListN.{length}
-use Rattle.flow.specs.Lists.{firstThat, refusalFrom}
-use Rattle.flow.specs.Box.{Rule, Tables, State, holds, itemsOf}
+use Rattle.flow.specs.Lists.{firstThat}
+use Rattle.flow.specs.Box.{Rule, State, holds, itemsOf}
 use Rattle.flow.specs.Calls.{Call, Change, change, after}
-use Rattle.flow.specs.Rules.{broken, firstBroken, lowestBroken}
+use Rattle.flow.specs.Rules.{broken, lowestBroken}
 use Rattle.flow.specs.Records.{Reading, unreadable, aCall, aRule, reading}
 use Rattle.flow.specs.Refusals.{callTests, fieldTests, ruleTests, testsOf}
-use Rattle.flow.specs.Verdicts.{Outcome, refuses, loads, allows, inhibits, modifies, verdictBy, verdict, stopped, outcomeOfCall, outcomeOfRule, outcomeOf, answerOf, withRule, stateAfter}
+use Rattle.flow.specs.Verdicts.{refuses, loads, allows, inhibits, modifies, verdictBy, verdict, stopped, outcomeOfCall, outcomeOfRule, outcomeOf, answerOf, withRule, stateAfter}
 use Rattle.flow.proofs.TableLaws.{AllFalse, all-false}
 use Rattle.flow.proofs.Judging.{none-broken, one-more}
 use Rattle.records.specs.declared.Record.{Record}
 use Rattle.records.specs.Reading.{readingOf}
 use Rattle.rules.specs.Stored.{ruleAt}
 use Rattle.decision.specs.declared.Monitor.{Monitor}
-use Rattle.decision.specs.declared.Answer.{Answer}
 use Rattle.decision.specs.declared.Answer.the-variants.{Refused, Loaded, Allow, Inhibit, Modify}
 use Rattle.decision.specs.declared.Answered.{Answered}
 use Rattle.decision.specs.View.{view}

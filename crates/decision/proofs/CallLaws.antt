@@ -7,14 +7,13 @@ use mathlib.Core.List.{List}
 use mathlib.Core.Option.{Option, none, some}
 use lib.ListN.{length}
 use Rattle.flow.specs.Lists.{firstThat, refusalFrom}
-use Rattle.flow.specs.Calls.{Kind, Call, change, itemsAfter, after}
-use Rattle.flow.specs.Rules.{lowestBroken}
+use Rattle.flow.specs.Calls.{Kind, Call, change, after}
 use Rattle.flow.specs.Records.{kindOf, callBy, callFrom, aCall}
 use Rattle.flow.specs.Refusals.{callTests, testsOf}
-use Rattle.flow.specs.Verdicts.{stopped, verdict}
+use Rattle.flow.specs.Verdicts.{stopped}
 use Rattle.store.specs.declared.Plan.{Plan}
 use Rattle.sets.specs.Sets.{_∪_}
-use Rattle.store.specs.Maps.{Maps, withItems, itemsIn, view as mapsOf, part, itemsBy}
+use Rattle.store.specs.Maps.{Maps, withItems, itemsIn, view as mapsOf, itemsBy}
 use Rattle.store.proofs.Parts.{part-length}
 use Rattle.tracker.specs.declared.Call.{Call as Bytes}
 use Rattle.tracker.specs.Rows.{callIn, Passes}
@@ -22,14 +21,13 @@ use Rattle.tracker.specs.Plans.{nothing, planAt, givesAt}
 use Rattle.tracker.specs.Worked.{given, finished, mapsBy, Foreseen}
 use Rattle.tracker.proofs.Joined.{quiet, quiet-given, still-passes, finished-call, foreseen}
 use Rattle.rules.proofs.AnewLaws.{nothing-given, judges}
-use Rattle.rules.specs.Stored.{ruleAt, countOf}
+use Rattle.rules.specs.Stored.{countOf}
 use Rattle.rules.specs.Judging.{Judged}
 use Rattle.decision.specs.declared.Monitor.{Monitor}
-use Rattle.decision.specs.declared.Answer.{Answer}
 use Rattle.decision.specs.declared.Answer.the-variants.{Refused, Allow}
 use Rattle.decision.specs.declared.Answered.{Answered}
 use Rattle.decision.specs.View.{maps, monitor, view}
-use Rattle.decision.specs.Answers.{Sound, Answers, Gives, AnswersStopped}
+use Rattle.decision.specs.Answers.{Answers, Gives, AnswersStopped}
 use Rattle.decision.proofs.AnswerLaws.{refused-as, allowed-as, stopped-as}
 use Rattle.decision.proofs.VerdictLaws.{judged-none, judged-some, found-lt, stops}
 

@@ -1,7 +1,7 @@
 -- The operations of a kernel, whole logs among them, are steps. One operation tells its steps the words of the definitions and leaves the state
 -- after them (`operation-done`); so the words of all operations are those of all steps (`all-told`), and between two operations the state is
 -- that of the steps so far (`state-before`). Demand 3 is said of any two monitors on which the operations are done (`demand3-of-done`).
-use Prim.Native.Nat.{ℕ, zero, suc, _+_, _≤_, _<_}
+use Prim.Native.Nat.{ℕ, zero, suc, _≤_, _<_}
 use native.Mathlib.Omega.{arith}
 use mathlib.Core.Path.{_≡_, refl, sym, ap, ap₂, _∙_}
 use mathlib.Core.Logic.{_⊎_, ⊎-elim}

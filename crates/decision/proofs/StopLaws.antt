@@ -1,11 +1,11 @@
 -- A call that a rule stops: inhibited, or diverted to the substitute.
-use Prim.Native.Nat.{ℕ, _+_, _%_, _≤_, _<_}
+use Prim.Native.Nat.{ℕ, _+_, _%_}
 use native.Mathlib.Omega.{arith}
 use native.Mathlib.Nat.{mod-eq-of-lt}
 use mathlib.Core.Path.{_≡_, refl, sym, ap, ap₂, subst, _∙_}
 use mathlib.Core.Bool.{Bool, true, false, not, _&&_}
 use mathlib.Core.List.{List}
-use mathlib.Core.Option.{none, some}
+use mathlib.Core.Option.{some}
 use lib.Dec.{eqb}
 use lib.ListN.{getD, length}
 use borrow.Author.Tests.{not-true, not-false}
@@ -24,7 +24,7 @@ use Rattle.rules.specs.Judging.{Judged}
 use Rattle.decision.specs.declared.Monitor.{Monitor}
 use Rattle.decision.specs.declared.Answer.the-variants.{Inhibit, Modify}
 use Rattle.decision.specs.View.{maps, monitor, view}
-use Rattle.decision.specs.Answers.{Sound, AnswersStopped}
+use Rattle.decision.specs.Answers.{AnswersStopped}
 use Rattle.decision.proofs.AnswerLaws.{inhibited-as, modified-as}
 use Rattle.decision.proofs.VerdictLaws.{judged-none, judged-some, no-write, not-used, diverted, diversion-broken, gift-items, exactly}
 

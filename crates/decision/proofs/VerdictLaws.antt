@@ -1,9 +1,8 @@
 -- A call is judged by its plan; the lowest rule that it breaks decides.
-use Prim.Native.Nat.{ℕ, _+_, _%_, _^_, _≤_, _<_}
+use Prim.Native.Nat.{ℕ, _^_, _≤_, _<_}
 use native.Mathlib.Omega.{arith}
-use native.Mathlib.Nat.{mod-eq-of-lt}
-use mathlib.Core.Path.{_≡_, refl, sym, ap, ap₂, _∙_}
-use mathlib.Core.Bool.{Bool, true, false, not, _&&_, _||_}
+use mathlib.Core.Path.{_≡_, refl, sym, ap, _∙_}
+use mathlib.Core.Bool.{Bool, true, false, not, _&&_}
 use mathlib.Core.List.{List}
 use mathlib.Core.Option.{Option, none, some}
 use lib.Dec.{eqb}
@@ -12,9 +11,9 @@ use borrow.Author.Tests.{not-false}
 use Rattle.sets.specs.Sets.{has, _∪_}
 use Rattle.sets.proofs.Members.{union-has, none-has}
 use Rattle.flow.specs.Lists.{isNone}
-use Rattle.flow.specs.Box.{containerOf, Rule, Tables, State, itemsOf, holds}
+use Rattle.flow.specs.Box.{containerOf, Rule, State, itemsOf, holds}
 use Rattle.flow.specs.Links.{reach, used}
-use Rattle.flow.specs.Calls.{Kind, write, kindNumber, Call, isKind, gift, Change, change, itemsAfter, after}
+use Rattle.flow.specs.Calls.{Kind, write, kindNumber, Call, isKind, gift, change, itemsAfter, after}
 use Rattle.flow.specs.Rules.{Numbered, lowestBroken}
 use Rattle.flow.specs.Records.{kindOf, callBy, callFrom}
 use Rattle.flow.specs.Verdicts.{Outcome, modifies, inhibits, diversion, mayDivert, breaksNone, stopped, verdictBy, verdict}
@@ -22,14 +21,14 @@ use Rattle.flow.specs.Consequences.{KindsNumbered}
 use Rattle.flow.proofs.Bools.{or-elim, or-l, or-r, and-i, no-both, choice, chosen-l, chosen-r}
 use Rattle.flow.proofs.KindLaws.{kinds-numbered}
 use Rattle.store.specs.declared.Plan.{Plan}
-use Rattle.store.specs.Maps.{itemsIn, part, view as mapsOf, itemsBy}
+use Rattle.store.specs.Maps.{itemsIn, view as mapsOf, itemsBy}
 use Rattle.store.proofs.Parts.{part-length}
 use Rattle.tracker.specs.declared.Call.{Call as Bytes}
 use Rattle.tracker.specs.Rows.{callIn}
 use Rattle.tracker.specs.Plans.{gives}
 use Rattle.tracker.specs.Worked.{Foreseen}
 use Rattle.tracker.proofs.Joined.{gift-made}
-use Rattle.rules.specs.Stored.{ruleAt, actionAt, substituteAt, countOf, rulesOf}
+use Rattle.rules.specs.Stored.{ruleAt, countOf}
 use Rattle.rules.specs.Judging.{share, gets, keeps, Planned, firstAnew, Judged, found}
 use Rattle.rules.proofs.PlanLaws.{made-has}
 use Rattle.rules.proofs.JudgingLaws.{judged, first-anew-le}

@@ -15,11 +15,11 @@ use rules::stored::FORBID_TAG;
 use rules::stored::RULE_COUNT;
 use rules::stored::SEPARATE_TAG;
 use rules::stored::count;
+use sets::lengths;
 use store::cells::make_items;
 use store::lookups::in_use;
 use store::lookups::items;
 use store::numbers::Container;
-use store::sizes;
 use store::spread::reach;
 use tracker::Call;
 use tracker::Tracker;
@@ -78,7 +78,7 @@ fn stop_in(
     requires { ⌜ (k < ruleCount) × Passes (now words) (now descriptors) (now names) q ⌝ }
     ensures { λ r. ⌜ ((x : Asked) → callIn q ≡ some x → AnswersStopped (monitorBefore words descriptors names sets fields) x k (record { answer = r; monitor = monitorAfter words descriptors names sets fields })) ⌝ }
 {
-    sizes(words, names);
+    lengths(words, names);
     let diverts = stored::action(fields, k) == DIVERT;
     if !(diverts & (q.kind == WRITE)) {
         return Answer::Inhibit(k);
@@ -108,7 +108,7 @@ fn give_in(
     requires { ⌜ Passes (now words) (now descriptors) (now names) q ⌝ }
     ensures { λ k. ⌜ Gives (monitorBefore words descriptors names sets fields) q k (now (words .exit)) ⌝ }
 {
-    sizes(words, names);
+    lengths(words, names);
     if !gives(q.kind) {
         return RULE_COUNT;
     }
@@ -132,7 +132,7 @@ pub fn call_in(
 ) -> Answer
     ensures { λ r. ⌜ Answers (monitorBefore words descriptors names sets fields) (aCall (callIn q)) (record { answer = r; monitor = monitorAfter words descriptors names sets fields }) ⌝ }
 {
-    sizes(words, names);
+    lengths(words, names);
     let n = refusal(words, descriptors, names, q);
     if n != 0 {
         return Answer::Refused(n);

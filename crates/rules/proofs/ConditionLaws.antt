@@ -2,23 +2,18 @@
 use Prim.Native.Nat.{ℕ, _%_, _^_, _<_}
 use mathlib.Core.Path.{_≡_, refl, sym, ap, _∙_}
 use native.Mathlib.Omega.{arith}
-use native.Mathlib.Nat.{mod-eq-of-lt}
 use mathlib.Core.Bool.{false, _&&_, _||_, or-false}
 use lib.Dec.{eqb, ltb}
 use borrow.Author.Tests.{eqb-true, eqb-false, eq-eqb, ne-eqb}
 use Rattle.sets.specs.Sets.{has}
-use Rattle.sets.proofs.Members.{has-lt}
+use Rattle.sets.proofs.Members.{mod-out}
 use Rattle.flow.specs.Box.{Condition, forbid, separate, confine, Rule, State, itemsOf, holds}
 use Rattle.flow.specs.Lists.{someBelow}
 use Rattle.flow.specs.Rules.{breaks, broken}
 use Rattle.flow.specs.Records.{conditionOf}
 use Rattle.flow.specs.Refusals.{itemsFit, sameItems}
-use Rattle.flow.proofs.Bools.{by, no-both, and-false-r, or-false-l, or-false-r, or-false-i, chosen-l, chosen-r}
+use Rattle.flow.proofs.Bools.{by, and-false-r, or-false-l, or-false-r, or-false-i, chosen-l, chosen-r}
 use Rattle.rules.specs.Judging.{touches, breaksWith, brokenIn}
-
--- a member stands for its rest by 64
-rest-has : (x i : ℕ) → x < 2 ^ 64 → has x (i % 64) ≡ false → has x i ≡ false
-rest-has x i h e = by (has x i) (λ k. no-both (ap (has x) (mod-eq-of-lt (has-lt x i h k)) ∙ k) e) (λ k. k)
 
 module _ (tag item set : ℕ) where
   pub forbids-by : tag ≡ 0x11 → conditionOf tag item set ≡ forbid item set
@@ -58,9 +53,9 @@ pub touches-rest : (tag item set x : ℕ) → x < 2 ^ 64 → touches x (conditio
 touches-rest tag item set x h e =
     let w = sym (touches-is tag (item % 64) (set % 64) x) ∙ e in
     touches-is tag item set x
-    ∙ or-false-i (has x item) _ (rest-has x item h (or-false-l _ (eqb tag 0x12 && has x (set % 64)) w))
+    ∙ or-false-i (has x item) _ (mod-out x item h (or-false-l _ (eqb tag 0x12 && has x (set % 64)) w))
     (by (eqb tag 0x12)
-    (λ q. rw q (rest-has x set h (and-false-r (eqb tag 0x12) _ q (or-false-r (has x (item % 64)) _ w))))
+    (λ q. rw q (mod-out x set h (and-false-r (eqb tag 0x12) _ q (or-false-r (has x (item % 64)) _ w))))
     (λ q. rw q refl))
 
 -- a state breaks a rule where its items do

@@ -10,14 +10,14 @@ use Rattle.sets.proofs.Members.{union-has}
 use Rattle.flow.specs.Lists.{tableFrom, table, someBelow}
 use Rattle.flow.specs.Box.{Condition, forbid, separate, confine, Rule, State, itemsOf, holds}
 use Rattle.flow.specs.Rules.{breaks, broken, firstBroken, lowestBroken}
-use Rattle.flow.proofs.Bools.{by, no-both, or-elim, or-l, or-r, and-l, and-r, and-i, and-false-l, chosen-l, chosen-r}
-use Rattle.flow.proofs.TableLaws.{none-of}
+use Rattle.flow.proofs.Bools.{by, no-both, or-elim, or-l, or-r, and-l, and-r, and-i, and-false-l, chosen-l, chosen-r, same}
+use Rattle.flow.proofs.TableLaws.{none-of, some-same, some-or}
+use Rattle.flow.proofs.Meets.{meets-some, outside-some}
 use Rattle.flow.proofs.Judging.{first-whole}
 use Rattle.store.specs.declared.Plan.{Plan}
 use Rattle.rules.specs.Stored.{ruleAt, countOf, rulesOf}
 use Rattle.rules.specs.Judging.{gets, keeps, someKeeps, Planned, breaksAnew, firstFrom, firstAnew, found}
 use Rattle.rules.proofs.PlanLaws.{gets-has, gets-lt}
-use Rattle.rules.proofs.SetLaws.{same, some-same, some-or, meets-some, outside-some}
 use Rattle.rules.proofs.Searching.{first-le, first-end, first-hit, first-miss, found-none, found-some}
 
 module _ (s t : State) (plan : Plan) (p : Planned s t plan) where

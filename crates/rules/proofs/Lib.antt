@@ -1,4 +1,3 @@
-pub mod SetLaws
 pub mod Searching
 pub mod Worklist
 pub mod ConditionLaws

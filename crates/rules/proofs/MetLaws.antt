@@ -7,13 +7,14 @@ use lib.Bits.{and-comm as meet-comm}
 use lib.Dec.{eqb}
 use lib.ListN.{getD}
 use Rattle.sets.specs.Sets.{has, _∪_, _∩_}
-use Rattle.sets.proofs.Members.{union-has, past-has}
+use Rattle.sets.proofs.Members.{union-has, past-has, less-has}
 use Rattle.flow.specs.Box.{separate}
 use Rattle.flow.specs.Lists.{someBelow}
 use Rattle.flow.specs.Links.{meets}
+use Rattle.flow.proofs.TableLaws.{none-below, some-same, some-or}
+use Rattle.flow.proofs.Meets.{meets-some}
 use Rattle.store.specs.declared.Plan.{Plan}
 use Rattle.rules.specs.Judging.{gets, keeps, someKeeps, onlyIf, Held, Met, meet, breaksAnew}
-use Rattle.rules.proofs.SetLaws.{some-same, some-or, some-and, less-has, meets-some}
 use Rattle.rules.proofs.PlanLaws.{chosen-has, gets-has, gets-lt}
 
 -- ---- no item is past 63
@@ -25,6 +26,10 @@ module _ (given met i j : ℕ) (h : given < 2 ^ 64) (k : met < 2 ^ 64) where
   pub past-second : 64 ≤ j → meet given met i j ≡ false
   unfolding meet
   past-second l = rw (past-has given j h l, past-has met j k l, and-false (has given i)) refl
+
+some-and : (n : ℕ) (f : ℕ → Bool) (b : Bool) → someBelow n (λ i. f i && b) ≡ (someBelow n f && b)
+some-and n f true = some-same n (λ i l. and-true (f i)) ∙ sym (and-true (someBelow n f))
+some-and n f false = none-below n _ (λ i l. and-false (f i)) ∙ sym (and-false (someBelow n f))
 
 module _ (l : List ℕ) (plan : Plan) where
   -- ---- the items met

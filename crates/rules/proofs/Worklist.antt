@@ -1,28 +1,16 @@
 -- A loop that takes the lowest member of a set in each turn and gathers its items, until none is left.
 use Prim.Native.Nat.{ℕ, _%_, _<_, _^_}
-use native.Mathlib.Omega.{arith}
-use native.Mathlib.Nat.{mod-eq-of-lt}
 use native.Mathlib.Decide.{ℕ-discrete}
 use mathlib.Core.Path.{_≡_, refl, sym, ap, _∙_}
-use mathlib.Core.Logic.{⊎-elim}
-use mathlib.Core.Bool.{Bool, true, false, not, _&&_, _||_, and-comm, and-false, or-false, or-assoc}
+use mathlib.Core.Bool.{Bool, true, false, _&&_, _||_, and-false, or-false, or-assoc}
 use mathlib.Core.List.{List}
 use lib.ListN.{getD}
-use borrow.Author.Tests.{eq-eqb, ne-eqb}
-use Rattle.sets.specs.Sets.{has, _∪_, without, lowest, count}
-use Rattle.sets.proofs.Members.{union-has, has-lt, lowest-has, without-has, without-lt, none-has, count-part}
+use Rattle.sets.specs.Sets.{has, _∪_, without, lowest}
+use Rattle.sets.proofs.Members.{union-has, without-lt, without-at, without-other, none-has, member, turn-below, itself}
 use Rattle.flow.specs.Lists.{someBelow}
-use Rattle.flow.proofs.Bools.{by, and-l, and-i, no-both}
-use Rattle.flow.proofs.TableLaws.{some-of, none-below}
+use Rattle.flow.proofs.Bools.{by, and-i}
+use Rattle.flow.proofs.TableLaws.{some-of, none-below, some-same}
 use Rattle.rules.specs.Judging.{Held}
-use Rattle.rules.proofs.SetLaws.{some-same}
-
--- ---- a set without v, at v and elsewhere
-without-at : (x v i : ℕ) → i < 64 → i ≡ v → has (without x v) i ≡ false
-without-at x v i k d = without-has x v i k ∙ ap (λ (b : Bool). has x i && not b) (eq-eqb i v d) ∙ and-comm (has x i) false
-
-without-other : (x v i : ℕ) → i < 64 → (i ≡ v → ⊥) → has (without x v) i ≡ has x i
-without-other x v i k d = without-has x v i k ∙ ap (λ (b : Bool). has x i && not b) (ne-eqb i v d) ∙ and-comm (has x i) true
 
 -- some member of x is one that f holds of
 abbrev pub someOf : (ℕ → Bool) → ℕ → Bool
@@ -48,27 +36,17 @@ module _ (items : List ℕ) (set : ℕ) where
 
   -- ---- one turn: v is the lowest of those left
   module _ (found left : ℕ) (w : Gathering items set found left) (more : left ≡ 0 → ⊥) (v : ℕ) (is : v ≡ lowest left) where
-    member : has left v ≡ true
-    member = rw is (lowest-has left (w .small) (omega (arith, more)))
+    own : has left v ≡ true
+    own = member left (w .small) more v is
 
-    pub turn-below : v < 64
-    turn-below = has-lt left v (w .small) member
-
-    itself : v % 64 ≡ v
-    itself = mod-eq-of-lt turn-below
-
-    pub turn-fewer : (later : ℕ) → later ≡ without left (v % 64) → count later < count left
-    turn-fewer later e =
-        rw (e, itself)
-        (⊎-elim (λ q. no-both (ap (λ (z : ℕ). has z v) q ∙ member) (without-at left v v turn-below refl)) (λ q. q)
-        (count-part (without left v) left (without-lt left v) (w .small)
-        (λ i m. and-l _ _ (sym (without-has left v i (has-lt _ i (without-lt left v) m)) ∙ m))))
+    below : v < 64
+    below = turn-below left (w .small) more v is
 
     -- v and the rest
     split : (f : ℕ → Bool) → (f v || someOf f (without left v)) ≡ someOf f left
     split f =
         by (f v)
-        (λ e. rw e (sym (some-of 64 (λ v. has left v && f v) v turn-below (and-i (has left v) (f v) member e))))
+        (λ e. rw e (sym (some-of 64 (λ v. has left v && f v) v below (and-i (has left v) (f v) own e))))
         (λ e. rw e (some-same 64 (λ i l. at e i l (ℕ-discrete i v))))
       where
         at : f v ≡ false → (i : ℕ) → i < 64 → Dec (i ≡ v) → (has (without left v) i && f i) ≡ (has left i && f i)
@@ -77,7 +55,7 @@ module _ (items : List ℕ) (set : ℕ) where
 
     pub gather-more : (x later : ℕ) → x ≡ getD items v 0 → later ≡ without left (v % 64) → Gathering items set (found ∪ x) later
     gather-more x later e q =
-        let p : later ≡ without left v = q ∙ ap (without left) itself in
+        let p : later ≡ without left v = q ∙ ap (without left) (itself left (w .small) more v is) in
         record {
           small = rw p (without-lt left v);
           same = λ i.

@@ -5,6 +5,7 @@ ghost use mathlib.Core.List.{[], _∷_, _++_};
 ghost use Rattle.flow.specs.Box.{containerCount, ruleCount};
 ghost use Rattle.rules.specs.Stored.{actionAt, substituteAt, countOf, rulesOf, ruleFrom};
 use crate::RuleFields;
+use sets::lengths;
 
 // The numbers of document 01.
 pub const FORBID_TAG: u8 = 0x11;
@@ -57,15 +58,12 @@ pub fn substitute(fields: &[u8; 129], k: u8) -> u8
     fields[FIELDS_EACH * (k as usize) + SUBSTITUTE_FIELD] % CONTAINER_COUNT
 }
 
-// As slices the two arrays have their lengths, which the proof uses. Nothing is done.
-fn sizes(sets: &[u64], fields: &[u8]) {}
-
 // Loads a rule behind the others.
 pub fn store(sets: &mut [u64; 32], fields: &mut [u8; 129], rule: RuleFields)
     requires { ⌜ (countOf (now fields) < ruleCount) × (rule .substitute < containerCount) ⌝ }
     ensures { λ _. ⌜ rulesOf (now (sets .exit)) (now (fields .exit)) ≡ rulesOf (now (sets .entry)) (now (fields .entry)) ++ (ruleFrom rule ∷ []) ⌝ }
 {
-    sizes(sets, fields);
+    lengths(sets, fields);
     let k = count(fields);
     let i = k as usize;
     let at = FIELDS_EACH * i;

@@ -174,6 +174,14 @@ has-below n x i h m = go (decLe n i)
 pub has-lt : (x i : ℕ) → x < 2 ^ 64 → has x i ≡ true → i < 64
 has-lt = has-below 64
 
+-- where the rest of a number by 64 is no member, the number is none
+pub mod-out : (x i : ℕ) → x < 2 ^ 64 → has x (i % 64) ≡ false → has x i ≡ false
+mod-out x i h e = go (decLe 64 i)
+  where
+    go : Dec (64 ≤ i) → has x i ≡ false
+    go (yes k) = past-has x i h k
+    go (no d) = ap (has x) (sym (mod-eq-of-lt (omega arith))) ∙ e
+
 -- ---- two sets with the same members are the same number
 
 pub same-members : (n x y : ℕ) → x < 2 ^ n → y < 2 ^ n → ((i : ℕ) → i < n → has x i ≡ has y i) → x ≡ y
@@ -273,6 +281,10 @@ rest-has (suc n) x (suc i) h l =
     made-suc (not (has x 0)) (2 ^ n - 1 - x / 2) (rest n x h) i
     ∙ rest-has n (x / 2) i (omega arith) (omega arith) ∙ ap not (sym (has-suc x i))
 
+-- x less the members of y
+pub less-has : (x y i : ℕ) → y < 2 ^ 64 → i < 64 → has (x ∩ (2 ^ 64 - 1 - y)) i ≡ (has x i && not (has y i))
+less-has x y i h l = inter-has x (2 ^ 64 - 1 - y) i ∙ ap (λ (b : Bool). has x i && b) (rest-has 64 y i h l)
+
 pub eqb-sym : (i j : ℕ) → eqb i j ≡ eqb j i
 eqb-sym zero zero = refl
 eqb-sym zero (suc j) = eqb·zero-suc j ∙ sym (eqb·suc-zero j)
@@ -283,8 +295,7 @@ pub less-only : (x i : ℕ) → x < 2 ^ 64 → i < 64 → x ∩ (2 ^ 64 - 1 - on
 less-only x i h l =
     set-ext (x ∩ (2 ^ 64 - 1 - only i)) (without x i) (inter-lt x (2 ^ 64 - 1 - only i) h) (without-lt x i)
     (λ j k.
-    inter-has x (2 ^ 64 - 1 - only i) j
-    ∙ rw (rest-has 64 (only i) j (only-lt i l) k, only-has i j, eqb-sym i j) (sym (without-has x i j k)))
+    less-has x (only i) j (only-lt i l) k ∙ rw (only-has i j, eqb-sym i j) (sym (without-has x i j k)))
 
 pub without-le : (x i : ℕ) → x < 2 ^ 64 → i < 64 → without x i ≤ x
 without-le x i h l = rw (less-only x i h l) at (inter-le x (2 ^ 64 - 1 - only i))

@@ -1,5 +1,5 @@
 -- `call_in` refuses, gives what no rule stops, and makes the rest.
-use mathlib.Core.Path.{_≡_, sym, _∙_}
+use mathlib.Core.Path.{_≡_}
 use lib.ListN.{length}
 use Rattle.decision.specs.declared.Monitor.{Monitor}
 use Rattle.decision.specs.View.{monitor}
@@ -8,10 +8,10 @@ use borrow.Author.Needs.{needs}
 use Rattle.decision.proofs.inplace.call_in.Statement.{statement}
 use Rattle.decision.proofs.inplace.call_in.Tie as tie
 
-long : (c : tie.After-sizes) → length (c .before .before .before .before .before .args .words .now) ≡ 97
+long : (c : tie.After-lengths) → length (c .before .before .before .before .before .args .words .now) ≡ 97
 long c = search needs
 
-named : (c : tie.After-sizes) → length (c .before .before .before .before .before .args .names .now) ≡ 128
+named : (c : tie.After-lengths) → length (c .before .before .before .before .before .args .names .now) ≡ 128
 named c = search needs
 
 -- the monitor that was met

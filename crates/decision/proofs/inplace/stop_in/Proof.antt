@@ -1,19 +1,15 @@
 -- `stop_in` inhibits, or diverts the write to the rule's substitute.
-use Prim.Native.Nat.{ℕ, _%_}
 use native.Mathlib.Omega.{arith}
-use native.Mathlib.Nat.{mod-eq-of-lt}
-use mathlib.Core.Path.{_≡_, sym, ap, _∙_}
-use mathlib.Core.List.{List}
+use mathlib.Core.Path.{_≡_, sym, _∙_}
 use lib.ListN.{length}
 use Rattle.tracker.proofs.Facts.{process-lt}
-use Rattle.decision.specs.declared.Monitor.{Monitor}
 use Rattle.decision.specs.View.{monitor}
 use Rattle.decision.proofs.StopLaws.{stop-no-write, stop-not-used, stop-broken, stop-diverts}
 use borrow.Author.Needs.{needs}
 use Rattle.decision.proofs.inplace.stop_in.Statement.{statement}
 use Rattle.decision.proofs.inplace.stop_in.Tie as tie
 
-long : (c : tie.After-sizes) → length (c .before .before .before .before .args .words .now) ≡ 97
+long : (c : tie.After-lengths) → length (c .before .before .before .before .args .words .now) ≡ 97
 long c = search needs
 
 action-requires : tie.Need-action-requires

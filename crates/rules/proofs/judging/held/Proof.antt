@@ -2,8 +2,9 @@
 use native.Mathlib.Omega.{arith}
 use borrow.Author.Needs.{needs}
 use Rattle.sets.specs.Sets.{_∪_, count}
+use Rattle.sets.proofs.Members.{turn-below, turn-fewer}
 use Rattle.store.specs.Maps.{itemsIn}
-use Rattle.rules.proofs.Worklist.{Gathering, gather-start, gather-end, gather-more, turn-below, turn-fewer}
+use Rattle.rules.proofs.Worklist.{Gathering, gather-start, gather-end, gather-more}
 use Rattle.rules.proofs.judging.held.Statement.{statement}
 use Rattle.rules.proofs.judging.held.Tie as tie
 
@@ -16,12 +17,12 @@ abbrev μ-loop : tie.MeasureT-loop
 cast-v : tie.Need-cast-v Inv-loop μ-loop
 cast-v c =
     let b = c .before in
-    omega (arith, turn-below _ _ _ _ (b .before .loop .inv) (b .loop-test .taken) _ (c .lowest .ensures))
+    omega (arith, turn-below _ (b .before .loop .inv .small) (b .loop-test .taken) _ (c .lowest .ensures))
 
 loop-less : tie.Need-loop-less Inv-loop μ-loop
 loop-less c =
     let b = c .before .before .before in
-    turn-fewer _ _ _ _ (b .before .loop .inv) (b .loop-test .taken) _ (c .before .before .lowest .ensures) _ (c .without .ensures)
+    turn-fewer _ (b .before .loop .inv .small) (b .loop-test .taken) _ (c .before .before .lowest .ensures) _ (c .without .ensures)
 
 loop-again : tie.Need-loop-again Inv-loop μ-loop
 unfolding _∪_
