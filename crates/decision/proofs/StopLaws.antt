@@ -17,7 +17,7 @@ use Rattle.store.specs.declared.Plan.{Plan}
 use Rattle.store.specs.Maps.{Maps, withItems, itemsIn, view as mapsOf, itemsBy}
 use Rattle.tracker.specs.declared.Call.{Call as Bytes}
 use Rattle.tracker.specs.Rows.{callIn}
-use Rattle.tracker.specs.Plans.{gives}
+use Rattle.tracker.specs.Plans.{giving}
 use Rattle.tracker.specs.Worked.{Foreseen}
 use Rattle.rules.specs.Stored.{ruleAt, actionAt, substituteAt, countOf}
 use Rattle.rules.specs.Judging.{Judged}
@@ -44,13 +44,13 @@ module _ (m : Monitor) (b : Bytes) (q : Call) (e : callIn b ≡ some q) (k : ℕ
     stop-not-used h = inhibited-as m q k (λ z. not-used m b q e k y use-is (not-true y h))
 
     module _ (n : ℕ) (f : n ≡ actionAt (m .fields) k) (d : not (eqb n 1 && eqb (b .kind) 9) ≡ false) (h : not y ≡ false) (long : length (m .words) ≡ 97)
-        (x : ℕ) (ix : x ≡ getD (itemsIn (m .words)) (8 + b .process) 0) (r : ℕ) (ir : r ≡ reach (maps m .tables) (c % 64)) (plan : Plan) (ip : plan ≡ gives x r) (j : ℕ) (js : Judged (itemsIn (m .words)) plan (m .sets) (m .fields) j) where
+        (x : ℕ) (ix : x ≡ getD (itemsIn (m .words)) (8 + b .process) 0) (r : ℕ) (ir : r ≡ reach (maps m .tables) (c % 64)) (plan : Plan) (ip : plan ≡ giving x r) (j : ℕ) (js : Judged (itemsIn (m .words)) plan (m .sets) (m .fields) j) where
       to-small : c % 64 ≡ rule .substitute
       unfolding substituteAt
       to-small = mod-eq-of-lt (rw g (omega arith)) ∙ g
 
-      plan-is : plan ≡ gives (getD (itemsIn (m .words)) (containerOf (b .process)) 0) (reach (maps m .tables) (rule .substitute))
-      plan-is = ip ∙ ap₂ gives ix (ir ∙ ap (reach (maps m .tables)) to-small)
+      plan-is : plan ≡ giving (getD (itemsIn (m .words)) (containerOf (b .process)) 0) (reach (maps m .tables) (rule .substitute))
+      plan-is = ip ∙ ap₂ giving ix (ir ∙ ap (reach (maps m .tables)) to-small)
 
       items-are : after (view m) (diversion (view m) q rule) .items ≡ itemsBy (itemsIn (m .words)) plan
       items-are = gift-items m b q e k long ∙ ap (itemsBy (itemsIn (m .words))) (sym plan-is)

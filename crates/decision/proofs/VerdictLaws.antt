@@ -25,7 +25,7 @@ use Rattle.store.specs.Maps.{itemsIn, view as mapsOf, itemsBy}
 use Rattle.store.proofs.Parts.{part-length}
 use Rattle.tracker.specs.declared.Call.{Call as Bytes}
 use Rattle.tracker.specs.Rows.{callIn}
-use Rattle.tracker.specs.Plans.{gives}
+use Rattle.tracker.specs.Plans.{giving}
 use Rattle.tracker.specs.Worked.{Foreseen}
 use Rattle.tracker.proofs.Joined.{gift-made}
 use Rattle.rules.specs.Stored.{ruleAt, countOf}
@@ -158,7 +158,7 @@ module _ (m : Monitor) (b : Bytes) (q : Call) (e : callIn b ≡ some q) (k : ℕ
     diversion-broken n h = by-judging (some n) h
 
   -- the items after the write to the substitute are those of its plan
-  pub gift-items : length (m .words) ≡ 97 → after (view m) (diversion (view m) q rule) .items ≡ itemsBy (itemsIn (m .words)) (gives (getD (itemsIn (m .words)) (containerOf (b .process)) 0) (reach (maps m .tables) (rule .substitute)))
+  pub gift-items : length (m .words) ≡ 97 → after (view m) (diversion (view m) q rule) .items ≡ itemsBy (itemsIn (m .words)) (giving (getD (itemsIn (m .words)) (containerOf (b .process)) 0) (reach (maps m .tables) (rule .substitute)))
   unfolding after diversion view mapsOf
   gift-items long =
       ap (λ (p : ℕ). itemsAfter (maps m .tables) (maps m .items) (record { tables = maps m .tables; flow = gift (containerOf p) (rule .substitute) })) (call-fields b q e .1)

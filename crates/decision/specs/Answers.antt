@@ -67,7 +67,8 @@ AnswersCall m kind p a b c r = Answers m (aCall (callFrom kind p a b c)) r
 abbrev pub AnswersItems : Monitor → ℕ → Reply → Type 0
 AnswersItems m c r = replyOf r ≡ itemsQuery (view m) c
 
--- ---- what a call that is not refused gives: rule number k stops it and nothing is stored, or k is 32 and the words are those once it is made
+-- ---- what a call that is not refused gives: rule number k stops it and nothing is stored, or k is 32 and the words are those once its gifts are
+-- made
 pub record Gives (m : Monitor) (q : Bytes) (k : ℕ) (words : List ℕ) : Type 0 where
   pub made : k ≡ ruleCount → mapsOf words (m .descriptors) (m .names) ≡ given (maps m) q
   pub passed : k ≡ ruleCount → Judged (itemsIn (m .words)) (planAt (maps m) q (kindOf (q .kind))) (m .sets) (m .fields) (countOf (m .fields))

@@ -1,5 +1,4 @@
 // The functions for C on a monitor's arrays: answers as codes, a query's answer as two numbers.
-ghost use Rattle.flow.specs.Records.{callFrom};
 ghost use Rattle.tracker.specs.Replies.{replyOf};
 ghost use Rattle.decision.specs.View.{monitorBefore, monitorAfter};
 ghost use Rattle.decision.specs.Answers.{AnswersRecord, AnswersCall};

@@ -102,7 +102,7 @@ fn joins(x: u64, first: u64, y: u64, second: u64, i: u64, j: u64) -> bool
     meet(y, second, i, j)
 }
 
-// Whether the condition speaks of an item of the set x. A number stands for its rest by 64.
+// Whether the condition speaks of an item of the set x. A number stands for its remainder by 64.
 fn touches(x: u64, tag: u8, item: u8, set: u64) -> bool
     ensures { λ r. ⌜ r ≡ touchesOf x (conditionOf tag (item % 64) (set % 64)) ⌝ }
 {
@@ -115,7 +115,7 @@ fn touches(x: u64, tag: u8, item: u8, set: u64) -> bool
     false
 }
 
-// Whether the plan breaks a condition with a set that was whole.
+// Whether the plan breaks a condition that has a set, and was whole.
 fn breaks_set(plan: Plan, tag: u8, item: u8, set: u64) -> bool
     ensures { λ r. ⌜ ((l : List ℕ) → (tag ≡ 0x12 → ⊥) → r ≡ breaksAnew l plan (conditionOf tag item set)) ⌝ }
 {

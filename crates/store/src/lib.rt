@@ -10,7 +10,7 @@ pub mod lookups;
 pub mod numbers;
 pub mod spread;
 
-// What a call makes of the items: the set `empty` is emptied, then `to` is given the items `given`, then `to2` the items `given2`.
+// What a call gives: the set `empty` is emptied, then `to` is given the items `given`, then `to2` the items `given2`.
 pub struct Plan {
     pub empty: u64,
     pub given: u64,
@@ -18,6 +18,3 @@ pub struct Plan {
     pub given2: u64,
     pub to2: u64,
 }
-
-// As slices the arrays have their lengths, which the proofs use. Nothing is done.
-pub fn sizes(words: &[u64], names: &[u8]) {}

@@ -40,7 +40,7 @@ fn next(words: &[u64], all: u64, left: u64, x: u64) -> u8
     first_fed(&words[65..81], left, x)
 }
 
-// Each process is gone through once.
+// The reach of u. Each process is gone through once at most.
 fn search(words: &[u64], u: u8) -> u64
     requires { ⌜ (length (now words) ≡ 97) × (u < 64) ⌝ }
     ensures { λ r. ⌜ ((d n : List ℕ) → r ≡ reached (view (now (words .entry)) d n .tables) u) ⌝ }

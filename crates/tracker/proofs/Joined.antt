@@ -29,7 +29,7 @@ use Rattle.store.specs.Maps.{Maps, withItems, changed, view, cleared, itemsBy}
 use Rattle.store.proofs.Words.{by-length}
 use Rattle.tracker.specs.declared.Call.{Call}
 use Rattle.tracker.specs.Rows.{asked, callIn, tablesAt, Passes}
-use Rattle.tracker.specs.Plans.{nothing, planOf, planBy, planAt, givesBy, givesAt, freeSet, emptiedBy, emptiedAt, gives, heldBy, lostBy, lostAt, goneOf}
+use Rattle.tracker.specs.Plans.{nothing, planOf, planBy, planAt, givesBy, givesAt, freeSet, emptiedBy, emptiedAt, giving, heldBy, lostBy, lostAt, goneOf}
 use Rattle.tracker.specs.Worked.{given as givenBy, finished, Worked, done, mapsBy, worked, Foreseen}
 use Rattle.tracker.proofs.Facts.{fit-process, accepted}
 use Rattle.tracker.proofs.Ending.{Ends, ends}
@@ -323,7 +323,7 @@ module _ (m : Maps) (long : length (m .items) ≡ 64) (lf : length (m .tables .f
 
 -- a gift alone, where the tables stay, is its plan (01, What a record gets: a diverted write)
 pub gift-made : (m : Maps) → length (m .items) ≡ 64 → (g u : ℕ)
-    → itemsAfter (m .tables) (m .items) (record { tables = m .tables; flow = gift g u }) ≡ itemsBy (m .items) (gives (getD (m .items) g 0) (reach (m .tables) u))
+    → itemsAfter (m .tables) (m .items) (record { tables = m .tables; flow = gift g u }) ≡ itemsBy (m .items) (giving (getD (m .items) g 0) (reach (m .tables) u))
 unfolding planOf cleared emptiedOf
 gift-made m long g u =
     lost-ended m (record { tables = m .tables; flow = gift g u }) 0 (record { before = λ v hv h. no-both h (none-has v); kept = λ v hv h z. z })

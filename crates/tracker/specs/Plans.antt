@@ -18,14 +18,14 @@ plan e x r y t = record { empty = e; given = x; to = r; given2 = y; to2 = t }
 abbrev pub nothing : Plan
 nothing = plan 0 0 0 0 0
 
-abbrev pub gives : ℕ → ℕ → Plan
-gives x r = plan 0 x r 0 0
+abbrev pub giving : ℕ → ℕ → Plan
+giving x r = plan 0 x r 0 0
 
 -- what a flow gives; a copy empties its receiver first
 unfoldable pub planOf : Maps → Flow → Plan
 planOf m still = nothing
-planOf m (gift g u) = gives (getD (m .items) g 0) (reach (m .tables) u)
-planOf m (arrival u i) = gives (only i) (reach (m .tables) u)
+planOf m (gift g u) = giving (getD (m .items) g 0) (reach (m .tables) u)
+planOf m (arrival u i) = giving (only i) (reach (m .tables) u)
 planOf m (exchange a b) = plan 0 (getD (m .items) a 0) (reach (m .tables) b) (getD (m .items) b 0) (reach (m .tables) a)
 planOf m (copy a b) = plan (only b) (getD (m .items) a 0) (only b) 0 0
 planOf m (clear u) = nothing
@@ -87,7 +87,7 @@ givesAt (some k) = givesBy k
 unfoldable pub freeSet : Tables → ℕ → ℕ → ℕ
 freeSet t c v = elim (isFed t c) [ true ↦ 0 | false ↦ only v ]
 
--- the containers that a call empties; the process of an exit is among those whose use it ends
+-- the containers that a call empties; a fork's child is emptied by its plan, and the process of an exit is among those whose use it ends
 unfoldable pub emptiedBy : Tables → ℕ → ℕ → ℕ → ℕ → Kind → ℕ
 emptiedBy t p a b c start = only (containerOf p)
 emptiedBy t p a b c openName = 0

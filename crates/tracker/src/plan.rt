@@ -11,13 +11,14 @@ ghost use mathlib.Core.Path.{_≡_};
 ghost use Rattle.flow.specs.Records.{kindOf};
 ghost use Rattle.store.specs.Maps.{mapsBefore};
 ghost use Rattle.tracker.specs.Rows.{Passes};
-ghost use Rattle.tracker.specs.Plans.{planAt, gives as givesTo, givesAt};
+ghost use Rattle.tracker.specs.Plans.{planAt, giving as givingTo, givesAt};
 
 // Whether calls of this kind can give an item to a container.
 pub fn gives(kind: u8) -> bool
     ensures { λ r. ⌜ r ≡ givesAt (kindOf kind) ⌝ }
 {
     match kind {
+        // Apart, since the checker takes numbers in a row for a range.
         8 | 11 | 17 | 19 => true,
         9 | 12 => true,
         _ => false,
@@ -26,7 +27,7 @@ pub fn gives(kind: u8) -> bool
 
 // The items x given to the set r.
 pub fn giving(x: u64, r: u64) -> Plan
-    ensures { λ z. ⌜ z ≡ givesTo x r ⌝ }
+    ensures { λ z. ⌜ z ≡ givingTo x r ⌝ }
 {
     Plan {
         empty: 0,

@@ -60,7 +60,8 @@ fn free_set(words: &[u64; 97], c: u8) -> u64
     sets::with(0, c)
 }
 
-// The containers that a call that is not refused empties, whatever their use. An exit's process is among the lost.
+// The containers that a call that is not refused empties, whatever their use. A fork's child is emptied by its plan, and an exit's process is
+// among the lost.
 pub fn emptied_by(words: &[u64; 97], descriptors: &[u8; 512], names: &[u8; 128], q: Call) -> u64
     requires { ⌜ Passes (now words) (now descriptors) (now names) q ⌝ }
     ensures { λ r. ⌜ r ≡ emptiedAt (mapsBefore words descriptors names .tables) q (kindOf (q .kind)) ⌝ }
