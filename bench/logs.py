@@ -10,7 +10,7 @@ from bench.machine import size_table, wall_table
 from bench.mixed import Mixed, largest_table, mean_table, measured_mixed, profile_table
 from bench.programs import BASELINE, PROVED, Pair, build_baseline, most
 
-MOST_MEAN = 2500  # instructions of a record, over the random logs
+MOST_MEAN = 550  # instructions of a record, over the random logs
 MOST_RECORD = 10_000  # instructions of any record found
 MOST_JUDGING = 4000  # instructions, beside the record's own
 GOAL_MIX = "mixed"

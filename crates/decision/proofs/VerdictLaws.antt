@@ -29,7 +29,7 @@ use Rattle.tracker.specs.Plans.{giving}
 use Rattle.tracker.specs.Worked.{Foreseen}
 use Rattle.tracker.proofs.Joined.{gift-made}
 use Rattle.rules.specs.Stored.{ruleAt, countOf}
-use Rattle.rules.specs.Judging.{share, gets, keeps, Planned, firstAnew, Judged, found}
+use Rattle.rules.specs.Judging.{onlyIf, gets, keeps, Planned, firstAnew, Judged, found}
 use Rattle.rules.proofs.PlanLaws.{made-has}
 use Rattle.rules.proofs.JudgingLaws.{judged, first-anew-le}
 use Rattle.rules.proofs.Searching.{found-none, found-some}
@@ -39,17 +39,17 @@ use Rattle.decision.specs.View.{maps, view}
 use Rattle.decision.specs.Answers.{Sound}
 
 -- ---- what is given goes to those that the plan names
-share-in : (x i to v : ℕ) → has (share x i to) v ≡ true → has to v ≡ true
-unfolding share
-share-in x i to v = choice (λ (y : ℕ). has y v ≡ true → has to v ≡ true) (has x i) to 0 (λ e h. h) (λ e h. no-both h (none-has v))
+only-in : (x i to v : ℕ) → has (onlyIf (has x i) to) v ≡ true → has to v ≡ true
+unfolding onlyIf
+only-in x i to v = choice (λ (y : ℕ). has y v ≡ true → has to v ≡ true) (has x i) to 0 (λ e h. h) (λ e h. no-both h (none-has v))
 
 gets-in : (plan : Plan) (v i : ℕ) → has (gets plan i) v ≡ true → has (plan .to ∪ plan .to2) v ≡ true
 unfolding gets
 gets-in plan v i h =
-    let x = share (plan .given) i (plan .to) in
-    let y = share (plan .given2) i (plan .to2) in
+    let x = onlyIf (has (plan .given) i) (plan .to) in
+    let y = onlyIf (has (plan .given2) i) (plan .to2) in
     union-has (plan .to) (plan .to2) v
-    ∙ or-elim (has x v) (has y v) (λ e. or-l (has (plan .to) v) _ (share-in (plan .given) i (plan .to) v e)) (λ e. or-r (has (plan .to) v) _ (share-in (plan .given2) i (plan .to2) v e)) (sym (union-has x y v) ∙ h)
+    ∙ or-elim (has x v) (has y v) (λ e. or-l (has (plan .to) v) _ (only-in (plan .given) i (plan .to) v e)) (λ e. or-r (has (plan .to) v) _ (only-in (plan .given2) i (plan .to2) v e)) (sym (union-has x y v) ∙ h)
 
 -- ---- what the plan foresees is what judging relies on
 module _ (m : Monitor) (plan : Plan) (t : State) (rules : t .rules ≡ view m .rules) (f : Foreseen (itemsIn (m .words)) (t .items) plan) where

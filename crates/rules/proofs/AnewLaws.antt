@@ -15,7 +15,7 @@ use Rattle.flow.proofs.Bools.{or-false-l, or-false-r, chosen-r}
 use Rattle.flow.proofs.TableLaws.{none-below}
 use Rattle.store.specs.declared.Plan.{Plan}
 use Rattle.rules.specs.Stored.{conditionAt, countOf}
-use Rattle.rules.specs.Judging.{share, gets, keeps, someKeeps, breaksAnew, touches, firstFrom, firstAnew, breaksRule, anewFrom, Judged}
+use Rattle.rules.specs.Judging.{onlyIf, gets, keeps, someKeeps, breaksAnew, touches, firstFrom, firstAnew, breaksRule, anewFrom, Judged}
 use Rattle.rules.proofs.Searching.{first-none}
 use Rattle.rules.proofs.ConditionLaws.{forbids-by, confines-by, touches-is, touches-rest}
 
@@ -30,9 +30,9 @@ module _ (items : List ℕ) (plan : Plan) (tag item set x : ℕ) (e : x ≡ gets
   confine-anew h k = ap (λ (y : ℕ). not (eqb (y ∩ set) y)) e ∙ sym (ap (breaksAnew items plan) (confines-by tag item set h k))
 
 -- ---- what is not given breaks nothing
-no-share : (x i to : ℕ) → has x i ≡ false → share x i to ≡ 0
-unfolding share
-no-share x i to e = chosen-r (has x i) to 0 e
+none-given : (x i to : ℕ) → has x i ≡ false → onlyIf (has x i) to ≡ 0
+unfolding onlyIf
+none-given x i to e = chosen-r (has x i) to 0 e
 
 none-meet : (x : ℕ) → 0 ∩ x ≡ 0
 unfolding _∩_
@@ -46,7 +46,7 @@ module _ (plan : Plan) where
   unfolding gets _∪_
   no-gets i e =
       let h : (has (plan .given) i || has (plan .given2) i) ≡ false = sym (union-has (plan .given) (plan .given2) i) ∙ e in
-      rw (no-share (plan .given) i (plan .to) (or-false-l (has (plan .given) i) (has (plan .given2) i) h), no-share (plan .given2) i (plan .to2) (or-false-r (has (plan .given) i) (has (plan .given2) i) h))
+      rw (none-given (plan .given) i (plan .to) (or-false-l (has (plan .given) i) (has (plan .given2) i) h), none-given (plan .given2) i (plan .to2) (or-false-r (has (plan .given) i) (has (plan .given2) i) h))
       (or-zero-r 0)
 
   none-keeps : (items : List ℕ) (i : ℕ) → someKeeps items plan 0 i ≡ false

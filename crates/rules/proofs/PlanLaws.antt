@@ -13,7 +13,7 @@ use Rattle.flow.proofs.TableLaws.{table-at}
 use Rattle.flow.proofs.Moves.{given-has}
 use Rattle.store.specs.declared.Plan.{Plan}
 use Rattle.store.specs.Maps.{cleared, itemsBy}
-use Rattle.rules.specs.Judging.{share, gets, keeps}
+use Rattle.rules.specs.Judging.{onlyIf, gets, keeps}
 
 -- ---- what a container gets
 -- a set, or else the empty set
@@ -21,18 +21,18 @@ pub chosen-has : (b : Bool) (x v : ℕ) → has (elim b as (λ z. ℕ) [ true �
 chosen-has true x v = sym (and-true (has x v))
 chosen-has false x v = none-has v ∙ sym (and-false (has x v))
 
-share-lt : (x i to : ℕ) → to < 2 ^ 64 → share x i to < 2 ^ 64
-unfolding share
-share-lt x i to h = choice (λ (y : ℕ). y < 2 ^ 64) (has x i) to 0 (λ e. h) (λ e. omega arith)
+only-if-lt : (x i to : ℕ) → to < 2 ^ 64 → onlyIf (has x i) to < 2 ^ 64
+unfolding onlyIf
+only-if-lt x i to h = choice (λ (y : ℕ). y < 2 ^ 64) (has x i) to 0 (λ e. h) (λ e. omega arith)
 
 module _ (plan : Plan) where
   pub gets-has : (i v : ℕ) → has (gets plan i) v ≡ ((has (plan .to) v && has (plan .given) i) || (has (plan .to2) v && has (plan .given2) i))
-  unfolding gets share
+  unfolding gets onlyIf
   gets-has i v = union-has _ _ v ∙ ap₂ _||_ (chosen-has _ _ v) (chosen-has _ _ v)
 
   pub gets-lt : plan .to < 2 ^ 64 → plan .to2 < 2 ^ 64 → (i : ℕ) → gets plan i < 2 ^ 64
   unfolding gets
-  gets-lt h k i = union-lt _ _ (share-lt _ i _ h) (share-lt _ i _ k)
+  gets-lt h k i = union-lt _ _ (only-if-lt _ i _ h) (only-if-lt _ i _ k)
 
 -- ---- the items after a plan
 cleared-has : (l : List ℕ) (x v i : ℕ) → v < 64 → has (getD (cleared l x) v 0) i ≡ (has (getD l v 0) i && not (has x v))

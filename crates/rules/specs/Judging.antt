@@ -15,13 +15,13 @@ use Rattle.store.specs.declared.Plan.{Plan}
 use Rattle.rules.specs.Stored.{ruleAt, countOf}
 
 -- ---- a plan
--- the set to where the set x has item i, else the empty set
-unfoldable pub share : ℕ → ℕ → ℕ → ℕ
-share x i to = elim (has x i) [ true ↦ to | false ↦ 0 ]
+-- the set x where the test holds, else the empty set
+unfoldable pub onlyIf : Bool → ℕ → ℕ
+onlyIf b x = elim b [ true ↦ x | false ↦ 0 ]
 
 -- the containers that get item i
 unfoldable pub gets : Plan → ℕ → ℕ
-gets plan i = share (plan .given) i (plan .to) ∪ share (plan .given2) i (plan .to2)
+gets plan i = onlyIf (has (plan .given) i) (plan .to) ∪ onlyIf (has (plan .given2) i) (plan .to2)
 
 -- container v held item i and is not emptied
 unfoldable pub keeps : List ℕ → Plan → ℕ → ℕ → Bool
@@ -30,10 +30,6 @@ keeps items plan v i = has (getD items v 0) i && not (has (plan .empty) v)
 -- some container of the set keeps item i
 unfoldable pub someKeeps : List ℕ → Plan → ℕ → ℕ → Bool
 someKeeps items plan set i = someBelow containerCount (λ v. has set v && keeps items plan v i)
-
--- the set x where b holds, else the empty set
-unfoldable pub onlyIf : Bool → ℕ → ℕ
-onlyIf b x = elim b [ true ↦ x | false ↦ 0 ]
 
 -- r has the items of the set's containers
 pub record Held (items : List ℕ) (set r : ℕ) : Type 0 where

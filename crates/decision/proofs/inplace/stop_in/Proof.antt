@@ -39,7 +39,8 @@ returns-2 c =
 
 add-own : tie.Need-add-own
 add-own c =
-    let c12 = c .before .before .before .before .before .before .before .before .before .before .before .before in
+    let c6 = c .before .before .before .before .before .before in
+    let c12 = c6 .before .before .before .before .before .before in
     omega (arith, process-lt (c12 .pre .1))
 
 returns-3 : tie.Need-returns-3

@@ -1,12 +1,12 @@
 -- `gets` joins the two shares.
 use borrow.Author.Needs.{needs}
 use Rattle.sets.specs.Sets.{_∪_}
-use Rattle.rules.specs.Judging.{gets, share, onlyIf}
+use Rattle.rules.specs.Judging.{gets, onlyIf}
 use Rattle.rules.proofs.judging.gets.Statement.{statement}
 use Rattle.rules.proofs.judging.gets.Tie as tie
 
 returns : tie.Need-returns
-unfolding gets share onlyIf _∪_
+unfolding gets onlyIf _∪_
 returns c =
     let b = c .before .before in
     rw (b .only-if .ensures, b .before .has .ensures, c .only-if2 .ensures, c .before .has2 .ensures)
