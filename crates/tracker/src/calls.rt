@@ -18,7 +18,7 @@ ghost use Rattle.tracker.specs.Worked.{done, worked, given, finished};
 // Makes what a call that is not refused gives.
 fn give(words: &mut [u64; 97], descriptors: &[u8; 512], names: &[u8; 128], q: Call)
     requires { ⌜ Passes (now words) (now descriptors) (now names) q ⌝ }
-    ensures { λ _. ⌜ (let m = mapsBefore words descriptors names in mapsAfter words descriptors names ≡ given m q) ⌝ }
+    ensures { λ _. ⌜ mapsAfter words descriptors names ≡ given (mapsBefore words descriptors names) q ⌝ }
 {
     sets::lengths(words, names);
     if !gives(q.kind) {
