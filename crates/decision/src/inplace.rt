@@ -17,6 +17,7 @@ use rules::stored::SEPARATE_TAG;
 use rules::stored::count;
 use sets::lengths;
 use store::cells::make_items;
+use store::limits::DEVICES;
 use store::lookups::in_use;
 use store::lookups::items;
 use store::numbers::Container;
@@ -87,7 +88,7 @@ fn stop_in(
     if !in_use(words, descriptors, names, Container(c)) {
         return Answer::Inhibit(k);
     }
-    let own = 8 + q.process;
+    let own = DEVICES + q.process;
     let plan = giving(items(words, Container(own)), reach(words, Container(c)));
     if judge(words, plan, sets, fields) != count(fields) {
         return Answer::Inhibit(k);

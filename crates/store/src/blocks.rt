@@ -1,5 +1,9 @@
 // The descriptors of a process: 32 in a row.
-use crate::lookups::CLOSED;
+use crate::limits::BLOCK;
+use crate::limits::CLOSED;
+use crate::limits::CONTAINERS;
+use crate::limits::FIRST_FILE;
+use crate::limits::PROCESSES;
 use crate::numbers::Process;
 ghost use Prim.Native.Nat.{_%_};
 ghost use mathlib.Core.Path.{_≡_};
@@ -17,8 +21,8 @@ pub fn close_block(descriptors: &mut [u8; 512], p: Process)
     ensures { λ _. ⌜ now (descriptors .exit) ≡ putBlock (now (descriptors .entry)) (p .0 % 16) (replicate descriptorCount closed) ⌝ }
 {
     let entries: &mut [u8] = descriptors;
-    let at = 32 * (p.0 % 16) as usize;
-    for d in 0usize..32 {
+    let at = BLOCK * (p.0 % PROCESSES) as usize;
+    for d in 0usize..BLOCK {
         entries[at + d] = CLOSED;
     }
 }
@@ -28,9 +32,9 @@ pub fn copy_block(descriptors: &mut [u8; 512], from: Process, to: Process)
     ensures { λ _. ⌜ now (descriptors .exit) ≡ putBlock (now (descriptors .entry)) (to .0 % 16) (block (now (descriptors .entry)) (from .0 % 16)) ⌝ }
 {
     let entries: &mut [u8] = descriptors;
-    let source = 32 * (from.0 % 16) as usize;
-    let at = 32 * (to.0 % 16) as usize;
-    for d in 0usize..32 {
+    let source = BLOCK * (from.0 % PROCESSES) as usize;
+    let at = BLOCK * (to.0 % PROCESSES) as usize;
+    for d in 0usize..BLOCK {
         let e = entries[source + d];
         entries[at + d] = e;
     }
@@ -40,7 +44,7 @@ pub fn copy_block(descriptors: &mut [u8; 512], from: Process, to: Process)
 pub fn file_set(e: u8) -> u64
     ensures { λ r. ⌜ r ≡ fileSet e ⌝ }
 {
-    if (24 <= e) & (e < 64) {
+    if (FIRST_FILE <= e) & (e < CONTAINERS) {
         return sets::with(0, e);
     }
     0
@@ -52,7 +56,7 @@ fn any_low(table: &[u8]) -> bool
 {
     let mut found = 0u8;
     for i in 0..table.len() {
-        found = found | ((table[i] < 64) as u8);
+        found = found | ((table[i] < CONTAINERS) as u8);
     }
     found != 0
 }
@@ -83,9 +87,9 @@ pub fn block_files(descriptors: &[u8; 512], p: Process) -> u64
     ensures { λ r. ⌜ r ≡ filesIn (block (now (descriptors .entry)) (p .0)) ⌝ }
 {
     let all: &[u8] = descriptors;
-    if p.0 < 16 {
-        let at = 32 * (p.0 as usize);
-        return files_in(&all[at..at + 8]) | files_in(&all[at + 8..at + 32]);
+    if p.0 < PROCESSES {
+        let at = BLOCK * (p.0 as usize);
+        return files_in(&all[at..at + 8]) | files_in(&all[at + 8..at + BLOCK]);
     }
     0
 }

@@ -2,6 +2,11 @@
 use crate::Plan;
 use crate::gifts::empty;
 use crate::gifts::give;
+use crate::limits::BLOCK;
+use crate::limits::FED_AT;
+use crate::limits::FEEDERS_AT;
+use crate::limits::ITEMS_AT;
+use crate::limits::PROCESSES;
 use crate::numbers::Descriptor;
 use crate::numbers::Name;
 use crate::numbers::Process;
@@ -24,10 +29,10 @@ pub fn set_live(words: &mut [u64; 97], x: u64)
 pub fn set_links(words: &mut [u64; 97], p: Process, x: u64, y: u64)
     ensures { λ _. ⌜ ((d n : List ℕ) → let m = view (now (words .entry)) d n in view (now (words .exit)) d n ≡ withTables m (withLinks (m .tables) (p .0) x y)) ⌝ }
 {
-    if p.0 < 16 {
+    if p.0 < PROCESSES {
         let i = p.0 as usize;
-        words[65 + i] = x;
-        words[81 + i] = y;
+        words[FEEDERS_AT + i] = x;
+        words[FED_AT + i] = y;
     }
 }
 
@@ -42,7 +47,7 @@ fn set_entry(table: &mut [u8], i: usize, e: u8)
 pub fn set_descriptor(descriptors: &mut [u8; 512], p: Process, d: Descriptor, e: u8)
     ensures { λ _. ⌜ now (descriptors .exit) ≡ set (now (descriptors .entry)) (slot (p .0) (d .0)) e ⌝ }
 {
-    set_entry(descriptors, 32 * (p.0 as usize) + d.0 as usize, e);
+    set_entry(descriptors, BLOCK * (p.0 as usize) + d.0 as usize, e);
 }
 
 pub fn set_name(names: &mut [u8; 128], n: Name, e: u8)
@@ -65,7 +70,7 @@ fn make_part(words: &mut [u64], plan: Plan)
     requires { ⌜ length (now words) ≡ 97 ⌝ }
     ensures { λ _. ⌜ ((d n : List ℕ) → let m = view (now (words .entry)) d n in view (now (words .exit)) d n ≡ withItems m (itemsBy (m .items) plan)) ⌝ }
 {
-    make(&mut words[1..65], plan);
+    make(&mut words[ITEMS_AT..FEEDERS_AT], plan);
 }
 
 // Makes a plan of the items.
@@ -79,7 +84,7 @@ fn empty_part(words: &mut [u64], r: u64)
     requires { ⌜ length (now words) ≡ 97 ⌝ }
     ensures { λ _. ⌜ ((d n : List ℕ) → let m = view (now (words .entry)) d n in view (now (words .exit)) d n ≡ withItems m (cleared (m .items) r)) ⌝ }
 {
-    empty(&mut words[1..65], r);
+    empty(&mut words[ITEMS_AT..FEEDERS_AT], r);
 }
 
 // Empties every container of the set r.

@@ -1,4 +1,5 @@
 // Gifts to the containers of a set, and emptying them.
+use crate::limits::CONTAINERS;
 ghost use mathlib.Core.Path.{_≡_};
 ghost use Prim.Native.Nat.{_%_};
 ghost use lib.ListN.{length, getD, set};
@@ -11,7 +12,7 @@ fn give_at(items: &mut [u64], v: u8, x: u64)
     requires { ⌜ length (now items) ≡ 64 ⌝ }
     ensures { λ _. ⌜ now (items .exit) ≡ set (now (items .entry)) (v % 64) (getD (now (items .entry)) (v % 64) 0 ∪ x) ⌝ }
 {
-    let i = (v % 64) as usize;
+    let i = (v % CONTAINERS) as usize;
     items[i] = items[i] | x;
 }
 
@@ -33,7 +34,7 @@ fn empty_at(items: &mut [u64], v: u8)
     requires { ⌜ length (now items) ≡ 64 ⌝ }
     ensures { λ _. ⌜ now (items .exit) ≡ set (now (items .entry)) (v % 64) 0 ⌝ }
 {
-    items[(v % 64) as usize] = 0;
+    items[(v % CONTAINERS) as usize] = 0;
 }
 
 // Empties every container of the set r.

@@ -6,6 +6,7 @@
 pub mod blocks;
 pub mod cells;
 mod gifts;
+pub mod limits;
 pub mod lookups;
 pub mod numbers;
 pub mod spread;

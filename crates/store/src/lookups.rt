@@ -1,4 +1,14 @@
 // Looking things up. Every number is taken as it is: past a table's end stands what the definitions say.
+use crate::limits::BLOCK;
+use crate::limits::CLOSED;
+use crate::limits::CONTAINERS;
+use crate::limits::DEVICES;
+use crate::limits::FED_AT;
+use crate::limits::FEEDERS_AT;
+use crate::limits::FIRST_FILE;
+use crate::limits::ITEMS_AT;
+use crate::limits::PROCESSES;
+use crate::limits::WORDS;
 use crate::numbers::Container;
 use crate::numbers::Descriptor;
 use crate::numbers::Name;
@@ -13,14 +23,11 @@ ghost use Rattle.flow.specs.Box.{isTarget, slot, closed};
 ghost use Rattle.flow.specs.Links.{used, isFed};
 ghost use Rattle.store.specs.Maps.{part, view, mapsBefore};
 
-// The mark of a closed descriptor and of an unbound name.
-pub const CLOSED: u8 = 255;
-
 // Whether i is a member of x.
 pub fn holds(x: u64, i: u8) -> bool
     ensures { λ r. ⌜ r ≡ has x i ⌝ }
 {
-    if i < 64 {
+    if i < CONTAINERS {
         return sets::member(x, i);
     }
     false
@@ -30,7 +37,7 @@ pub fn holds(x: u64, i: u8) -> bool
 pub fn leads(e: u8) -> bool
     ensures { λ r. ⌜ r ≡ isTarget e ⌝ }
 {
-    (e < 8) | ((24 <= e) & (e < 64))
+    (e < DEVICES) | ((FIRST_FILE <= e) & (e < CONTAINERS))
 }
 
 // An entry of a table: closed past its end.
@@ -46,7 +53,7 @@ pub fn entry(table: &[u8], i: usize) -> u8
 pub fn descriptor(descriptors: &[u8; 512], p: Process, d: Descriptor) -> u8
     ensures { λ r. ⌜ r ≡ getD (now (descriptors .entry)) (slot (p .0) (d .0)) closed ⌝ }
 {
-    entry(descriptors, 32 * (p.0 as usize) + d.0 as usize)
+    entry(descriptors, BLOCK * (p.0 as usize) + d.0 as usize)
 }
 
 pub fn name(names: &[u8; 128], n: Name) -> u8
@@ -58,7 +65,7 @@ pub fn name(names: &[u8; 128], n: Name) -> u8
 pub fn is_open(descriptors: &[u8; 512], p: Process, d: Descriptor) -> bool
     ensures { λ r. ⌜ r ≡ isTarget (getD (now (descriptors .entry)) (slot (p .0) (d .0)) closed) ⌝ }
 {
-    leads(entry(descriptors, 32 * (p.0 as usize) + d.0 as usize))
+    leads(entry(descriptors, BLOCK * (p.0 as usize) + d.0 as usize))
 }
 
 pub fn is_bound(names: &[u8; 128], n: Name) -> bool
@@ -84,8 +91,8 @@ pub fn is_live(words: &[u64; 97], p: Process) -> bool
 pub fn feeders(words: &[u64; 97], p: Process) -> u64
     ensures { λ r. ⌜ r ≡ getD (part 65 16 (now (words .entry))) (p .0) 0 ⌝ }
 {
-    if p.0 < 16 {
-        return words[65 + p.0 as usize];
+    if p.0 < PROCESSES {
+        return words[FEEDERS_AT + p.0 as usize];
     }
     0
 }
@@ -94,8 +101,8 @@ pub fn feeders(words: &[u64; 97], p: Process) -> u64
 pub fn fed(words: &[u64; 97], p: Process) -> u64
     ensures { λ r. ⌜ r ≡ getD (part 81 16 (now (words .entry))) (p .0) 0 ⌝ }
 {
-    if p.0 < 16 {
-        return words[81 + p.0 as usize];
+    if p.0 < PROCESSES {
+        return words[FED_AT + p.0 as usize];
     }
     0
 }
@@ -104,8 +111,8 @@ pub fn fed(words: &[u64; 97], p: Process) -> u64
 pub fn items(words: &[u64; 97], c: Container) -> u64
     ensures { λ r. ⌜ r ≡ getD (part 1 64 (now (words .entry))) (c .0) 0 ⌝ }
 {
-    if c.0 < 64 {
-        return words[1 + c.0 as usize];
+    if c.0 < CONTAINERS {
+        return words[ITEMS_AT + c.0 as usize];
     }
     0
 }
@@ -126,7 +133,7 @@ fn mapped(words: &[u64]) -> u64
     requires { ⌜ length (now words) ≡ 97 ⌝ }
     ensures { λ r. ⌜ r ≡ unionOf (part 65 16 (now (words .entry))) ∪ unionOf (part 81 16 (now (words .entry))) ⌝ }
 {
-    sets::union_of(&words[65..81]) | sets::union_of(&words[81..97])
+    sets::union_of(&words[FEEDERS_AT..FED_AT]) | sets::union_of(&words[FED_AT..WORDS])
 }
 
 // The containers that links lead into.
@@ -134,7 +141,7 @@ fn fed_set(words: &[u64]) -> u64
     requires { ⌜ length (now words) ≡ 97 ⌝ }
     ensures { λ r. ⌜ r ≡ unionOf (part 81 16 (now (words .entry))) ⌝ }
 {
-    sets::union_of(&words[81..97])
+    sets::union_of(&words[FED_AT..WORDS])
 }
 
 // Whether a link leads into the file, pipe or device c.
@@ -148,11 +155,11 @@ pub fn is_fed(words: &[u64; 97], c: Container) -> bool
 pub fn in_use(words: &[u64; 97], descriptors: &[u8; 512], names: &[u8; 128], c: Container) -> bool
     ensures { λ r. ⌜ r ≡ used (mapsBefore words descriptors names .tables) (c .0) ⌝ }
 {
-    if c.0 < 8 {
+    if c.0 < DEVICES {
         return true;
     }
-    if c.0 < 24 {
-        return is_live(words, Process(c.0 - 8));
+    if c.0 < FIRST_FILE {
+        return is_live(words, Process(c.0 - DEVICES));
     }
     if stands(names, c.0) {
         return true;

@@ -1,4 +1,10 @@
 // The reach of a container (document 01, The box).
+use crate::limits::ALL_PROCESSES;
+use crate::limits::CONTAINERS;
+use crate::limits::DEVICES;
+use crate::limits::FED_AT;
+use crate::limits::FEEDERS_AT;
+use crate::limits::NONE;
 use crate::numbers::Container;
 ghost use mathlib.Core.Path.{_≡_};
 ghost use mathlib.Core.List.{List};
@@ -22,7 +28,7 @@ fn first_fed(feeders: &[u64], left: u64, x: u64) -> u8
         }
         todo = sets::without(todo, p);
     }
-    64
+    NONE
 }
 
 // A process of the set left that is in the set x or fed from it, or 64. Where nothing in x feeds a process no row is tried.
@@ -35,9 +41,9 @@ fn next(words: &[u64], all: u64, left: u64, x: u64) -> u8
         return sets::lowest(own) as u8;
     }
     if x & all == 0 {
-        return 64;
+        return NONE;
     }
-    first_fed(&words[65..81], left, x)
+    first_fed(&words[FEEDERS_AT..FED_AT], left, x)
 }
 
 // The reach of u. Each process is gone through once at most.
@@ -45,16 +51,16 @@ fn search(words: &[u64], u: u8) -> u64
     requires { ⌜ (length (now words) ≡ 97) × (u < 64) ⌝ }
     ensures { λ r. ⌜ ((d n : List ℕ) → r ≡ reached (view (now (words .entry)) d n .tables) u) ⌝ }
 {
-    let all = sets::union_of(&words[65..81]);
+    let all = sets::union_of(&words[FEEDERS_AT..FED_AT]);
     let mut seen = sets::with(0, u);
     // The processes not gone through.
-    let mut left: u64 = 65535;
+    let mut left: u64 = ALL_PROCESSES;
     loop {
         let p = next(words, all, left, seen);
-        if p == 64 {
+        if p == NONE {
             return seen;
         }
-        seen = seen | sets::with(words[81 + p as usize], 8 + p);
+        seen = seen | sets::with(words[FED_AT + p as usize], DEVICES + p);
         left = sets::without(left, p);
     }
 }
@@ -63,5 +69,5 @@ fn search(words: &[u64], u: u8) -> u64
 pub fn reach(words: &[u64; 97], u: Container) -> u64
     ensures { λ r. ⌜ ((d n : List ℕ) → r ≡ reached (view (now (words .entry)) d n .tables) (u .0 % 64)) ⌝ }
 {
-    search(words, u.0 % 64)
+    search(words, u.0 % CONTAINERS)
 }

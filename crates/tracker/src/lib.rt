@@ -17,6 +17,7 @@ ghost use Rattle.tracker.specs.View.{view, state};
 ghost use Rattle.tracker.specs.Replies.{replyOf, AnswersHolders};
 ghost use Rattle.tracker.specs.Calling.{AnswersCall};
 use queries::Reply;
+use store::limits;
 
 // The five bytes of a call.
 pub struct Call {
@@ -47,15 +48,16 @@ pub struct Called {
 }
 
 impl Tracker {
-    pub const CONTAINERS: usize = 64;
+    pub const CONTAINERS: u8 = limits::CONTAINERS;
 
-    pub const PROCESSES: usize = 16;
+    pub const PROCESSES: u8 = limits::PROCESSES;
 
+    // Of all processes.
     pub const DESCRIPTORS: usize = 512;
 
-    pub const NAMES: usize = 128;
+    pub const NAMES: u8 = limits::NAMES;
 
-    pub const CLOSED: u8 = 255;
+    pub const CLOSED: u8 = limits::CLOSED;
 
     // A fresh tracker: every descriptor closed, every name unbound, nothing else.
     pub fn new() -> Tracker

@@ -1,6 +1,7 @@
 // What a call gives, as a plan, worked out before anything is stored.
 use crate::Call;
 use store::Plan;
+use store::limits::DEVICES;
 use store::lookups::descriptor;
 use store::lookups::items;
 use store::numbers::Container;
@@ -50,17 +51,17 @@ pub fn plan_of(words: &[u64; 97], descriptors: &[u8; 512], names: &[u8; 128], q:
     match kind {
         8 | 11 => {
             let to = descriptor(descriptors, Process(p), Descriptor(a));
-            let own = 8 + p;
+            let own = DEVICES + p;
             giving(items(words, Container(to)), reach(words, Container(own)))
         }
         9 => {
             let to = descriptor(descriptors, Process(p), Descriptor(a));
-            let own = 8 + p;
+            let own = DEVICES + p;
             giving(items(words, Container(own)), reach(words, Container(to)))
         }
         12 => {
             let to = descriptor(descriptors, Process(p), Descriptor(a));
-            let own = 8 + p;
+            let own = DEVICES + p;
             Plan {
                 empty: 0,
                 given: items(words, Container(to)),
@@ -70,8 +71,8 @@ pub fn plan_of(words: &[u64; 97], descriptors: &[u8; 512], names: &[u8; 128], q:
             }
         }
         17 => {
-            let child = sets::with(0, 8 + a);
-            let own = 8 + p;
+            let child = sets::with(0, DEVICES + a);
+            let own = DEVICES + p;
             Plan {
                 empty: child,
                 given: items(words, Container(own)),

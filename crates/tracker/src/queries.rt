@@ -1,5 +1,7 @@
 // The two queries (document 01, What a record gets): the items of a container as a 64-bit set, and the holders of an item, whose numbers go
 // into a lent slice.
+use store::limits::CONTAINERS;
+use store::limits::ITEMS;
 use store::lookups::items;
 use store::numbers::Container;
 ghost use Prim.Native.Nat.{ℕ, _%_, _≤_};
@@ -23,7 +25,7 @@ pub enum Reply {
 pub fn items_in(words: &[u64; 97], c: u8) -> Reply
     ensures { λ r. ⌜ ((d n : List ℕ) (rules : List Rule) → replyOf r ≡ itemsQuery (state (view (now (words .entry)) d n) rules) c) ⌝ }
 {
-    if c < 64 {
+    if c < CONTAINERS {
         return Reply::Result(items(words, Container(c)));
     }
     Reply::Refused(5)
@@ -45,7 +47,7 @@ fn holder_set(words: &[u64; 97], i: u8) -> u64
     ensures { λ r. ⌜ ((d n : List ℕ) (rules : List Rule) → r ≡ holders (state (view (now (words .entry)) d n) rules) (i % 64)) ⌝ }
 {
     let mut x = 0;
-    for c in 0u8..64 {
+    for c in 0u8..CONTAINERS {
         let held = items(words, Container(c));
         x = with_holder(x, held, i, c);
     }
@@ -71,7 +73,7 @@ fn fill(x: u64, out: &mut [u16])
 pub fn holders_in(words: &[u64; 97], i: u8, out: &mut [u16]) -> Reply
     ensures { λ r. ⌜ ((d n : List ℕ) (rules : List Rule) → AnswersHolders (state (view (now (words .entry)) d n) rules) i (now (out .entry)) r (now (out .exit))) ⌝ }
 {
-    if 64 <= i {
+    if ITEMS <= i {
         return Reply::Refused(5);
     }
     let x = holder_set(words, i);

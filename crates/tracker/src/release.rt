@@ -4,6 +4,7 @@ use store::blocks::FILES;
 use store::blocks::block_files;
 use store::blocks::file_set;
 use store::cells::empty_items;
+use store::limits::DEVICES;
 use store::lookups::descriptor;
 use store::lookups::fed;
 use store::lookups::feeders;
@@ -45,7 +46,7 @@ pub fn lost_by(words: &[u64; 97], descriptors: &[u8; 512], names: &[u8; 128], q:
         14 => file_set(name(names, Name(a))),
         15 => file_set(name(names, Name(b))),
         17 => held_by(words, descriptors, a),
-        18 => sets::with(held_by(words, descriptors, p), 8 + p),
+        18 => sets::with(held_by(words, descriptors, p), DEVICES + p),
         _ => 0,
     }
 }
@@ -71,7 +72,7 @@ pub fn emptied_by(words: &[u64; 97], descriptors: &[u8; 512], names: &[u8; 128],
     let a = q.a;
     let c = q.c;
     match kind {
-        1 => sets::with(0, 8 + p),
+        1 => sets::with(0, DEVICES + p),
         3 => sets::with(0, c),
         4 => sets::with(0, c),
         10 => free_set(words, descriptor(descriptors, Process(p), Descriptor(a))),

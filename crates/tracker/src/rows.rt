@@ -1,5 +1,12 @@
 // The rows of the table of refusals (document 01, What a record gets), one function each: refusals 4 to 10 of a call.
 use crate::Call;
+use store::limits::CONTAINERS;
+use store::limits::DESCRIPTORS;
+use store::limits::DEVICES;
+use store::limits::FIRST_FILE;
+use store::limits::ITEMS;
+use store::limits::NAMES;
+use store::limits::PROCESSES;
 use store::lookups::descriptor;
 use store::lookups::fed;
 use store::lookups::feeders;
@@ -44,18 +51,24 @@ fn fits(q: Call) -> bool
     let b = q.b;
     let c = q.c;
     match kind {
-        1 | 18 => (p < 16) & (a == 0) & (b == 0) & (c == 0),
-        2 => (p < 16) & (a < 128) & (b < 32) & (c == 0),
-        3 => (p < 16) & (a < 128) & (b < 32) & ((24 <= c) & (c < 64)),
-        4 => (p < 16) & (a < 32) & (b < 32) & ((24 <= c) & (c < 64)),
-        5 => (p < 16) & (a < 32) & (b < 8) & (c == 0),
-        6 => (p < 16) & (a < 32) & (b < 32) & (c == 0),
-        7 | 8 | 9 | 10 | 11 | 12 => (p < 16) & (a < 32) & (b == 0) & (c == 0),
-        13 => (p < 16) & (a < 64) & (b == 0) & (c == 0),
-        14 => (p < 16) & (a < 128) & (b == 0) & (c == 0),
-        15 | 16 => (p < 16) & (a < 128) & (b < 128) & (c == 0),
-        17 => (p < 16) & (a < 16) & (b == 0) & (c == 0),
-        19 => (p == 0) & (a < 64) & (b < 64) & (c == 0),
+        1 | 18 => (p < PROCESSES) & (a == 0) & (b == 0) & (c == 0),
+        2 => (p < PROCESSES) & (a < NAMES) & (b < DESCRIPTORS) & (c == 0),
+        3 => (p < PROCESSES)
+            & (a < NAMES)
+            & (b < DESCRIPTORS)
+            & ((FIRST_FILE <= c) & (c < CONTAINERS)),
+        4 => (p < PROCESSES)
+            & (a < DESCRIPTORS)
+            & (b < DESCRIPTORS)
+            & ((FIRST_FILE <= c) & (c < CONTAINERS)),
+        5 => (p < PROCESSES) & (a < DESCRIPTORS) & (b < DEVICES) & (c == 0),
+        6 => (p < PROCESSES) & (a < DESCRIPTORS) & (b < DESCRIPTORS) & (c == 0),
+        7 | 8 | 9 | 10 | 11 | 12 => (p < PROCESSES) & (a < DESCRIPTORS) & (b == 0) & (c == 0),
+        13 => (p < PROCESSES) & (a < CONTAINERS) & (b == 0) & (c == 0),
+        14 => (p < PROCESSES) & (a < NAMES) & (b == 0) & (c == 0),
+        15 | 16 => (p < PROCESSES) & (a < NAMES) & (b < NAMES) & (c == 0),
+        17 => (p < PROCESSES) & (a < PROCESSES) & (b == 0) & (c == 0),
+        19 => (p == 0) & (a < CONTAINERS) & (b < ITEMS) & (c == 0),
         _ => false,
     }
 }
@@ -134,7 +147,7 @@ fn is_no_file(descriptors: &[u8; 512], q: Call) -> bool
     let p = q.process;
     let a = q.a;
     match kind {
-        10 => descriptor(descriptors, Process(p), Descriptor(a)) < 8,
+        10 => descriptor(descriptors, Process(p), Descriptor(a)) < DEVICES,
         _ => false,
     }
 }

@@ -6,7 +6,7 @@ use store::cells::set_descriptor;
 use store::cells::set_links;
 use store::cells::set_live;
 use store::cells::set_name;
-use store::lookups::CLOSED;
+use store::limits::CLOSED;
 use store::lookups::descriptor;
 use store::lookups::fed;
 use store::lookups::feeders;

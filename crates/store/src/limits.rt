@@ -1,0 +1,36 @@
+// The numbers of document 01, The box, and where things lie in the words.
+pub const CONTAINERS: u8 = 64;
+
+// The first containers are devices, those behind them processes, and from here on files and pipes.
+pub const DEVICES: u8 = 8;
+
+pub const FIRST_FILE: u8 = 24;
+
+pub const PROCESSES: u8 = 16;
+
+pub const ALL_PROCESSES: u64 = 0xFFFF;
+
+// Of each process.
+pub const DESCRIPTORS: u8 = 32;
+
+// The same number, as a length.
+pub const BLOCK: usize = 32;
+
+pub const NAMES: u8 = 128;
+
+pub const ITEMS: u8 = 64;
+
+// No container and no process.
+pub const NONE: u8 = 64;
+
+// The mark of a closed descriptor and of an unbound name.
+pub const CLOSED: u8 = 255;
+
+// The live processes stand at 0.
+pub const ITEMS_AT: usize = 1;
+
+pub const FEEDERS_AT: usize = 65;
+
+pub const FED_AT: usize = 81;
+
+pub const WORDS: usize = 97;
