@@ -49,6 +49,9 @@ pub none-union : (x : ℕ) → 0 ∪ x ≡ x
 unfolding _∪_
 none-union x = or-zero-l x
 
+pub union-none : (x : ℕ) → x ∪ 0 ≡ x
+union-none x = union-comm x 0 ∙ none-union x
+
 -- ---- the sets of a list
 pub unionOf-more : (l : List ℕ) (i : ℕ) → i < length l → unionOf (take (i + 1) l) ≡ unionOf (take i l) ∪ getD l i 0
 unfolding unionOf

@@ -1,6 +1,7 @@
 -- The files of a list of entries, as a set.
 use Prim.Native.Nat.{ℕ, _+_, _-_, _*_, _≤_, _<_}
 use native.Mathlib.Omega.{arith}
+use native.Mathlib.Decide.{decLt}
 use mathlib.Core.Path.{_≡_, refl, sym, ap, ap₂, _∙_}
 use mathlib.Core.Bool.{Bool, true, false, not, _&&_, and-comm, and-or-distrib-left}
 use mathlib.Core.List.{List, [], _∷_, _++_}
@@ -9,16 +10,16 @@ use lib.Bits.{bitOr, or-add-and, and-le-l, and-le-r}
 use lib.ListN.{length, getD, take, drop}
 use lib.Seq.{take-add, drop-drop}
 use mir.Val.{boolByte}
-use borrow.Author.Tests.{ltb-true, leb-true, eqb-true}
+use borrow.Author.Tests.{ltb-true, leb-true, eqb-true, lt-ltb, le-ltb}
 use Rattle.sets.specs.Sets.{has, only, bit, thoseFrom, those, _∪_}
-use Rattle.sets.proofs.Members.{union-has, only-has, none-has, those-has, eqb-sym}
+use Rattle.sets.proofs.Members.{union-has, only-has, none-has, those-has, past-has, eqb-sym}
 use Rattle.sets.proofs.Unions.{all-more, union-assoc, union-comm, none-union}
 use Rattle.flow.specs.Lists.{isIn}
-use Rattle.flow.specs.Box.{isFile, slot}
+use Rattle.flow.specs.Box.{isDevice, isFile, isTarget, slot}
 use Rattle.flow.specs.Calls.{block}
 use Rattle.flow.proofs.Bools.{and-l, and-r, by, no-both, chosen-l, chosen-r}
 use Rattle.flow.proofs.TableLaws.{isIn-cons}
-use Rattle.store.specs.Maps.{fileSet, filesIn, files}
+use Rattle.store.specs.Maps.{fileSet, containerSet, filesIn, files}
 
 pub file-range : (c : ℕ) → isFile c ≡ true → (24 ≤ c) × (c < 64)
 unfolding isFile
@@ -64,6 +65,30 @@ files-are = refl
 
 pub files-has : (c : ℕ) → c < 64 → has files c ≡ isFile c
 files-has c h = ap (λ (x : ℕ). has x c) files-are ∙ those-has isFile c h
+
+-- ---- what an entry may lead to
+abbrev targets : ℕ
+targets = 0xFFFFFFFFFF0000FF
+
+targets-are : targets ≡ those isTarget
+unfolding those thoseFrom bit isTarget isDevice isFile
+targets-are = refl
+
+pub targets-has : (e : ℕ) → has targets e ≡ isTarget e
+unfolding isTarget isDevice isFile
+targets-has e = go (decLt e 64)
+  where
+    go : Dec (e < 64) → has targets e ≡ isTarget e
+    go (yes h) = ap (λ (x : ℕ). has x e) targets-are ∙ those-has isTarget e h
+    go (no h) = past-has targets e (omega arith) (omega arith) ∙ sym (rw (le-ltb e 8 (omega arith), le-ltb e 64 (omega arith), and-comm (leb 24 e) false))
+
+pub containerSet-low : (e : ℕ) → e < 64 → containerSet e ≡ only e
+unfolding containerSet
+containerSet-low e h = chosen-l (ltb e 64) (only e) 0 (lt-ltb e 64 h)
+
+pub containerSet-past : (e : ℕ) → 64 ≤ e → containerSet e ≡ 0
+unfolding containerSet
+containerSet-past e h = chosen-r (ltb e 64) (only e) 0 (le-ltb e 64 h)
 
 -- ---- entries of 64 or more
 byte-none : (b : Bool) → boolByte b ≡ 0 → b ≡ false

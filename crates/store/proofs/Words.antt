@@ -4,16 +4,18 @@ use native.Mathlib.Omega.{arith}
 use native.Mathlib.Decide.{decLt}
 use mathlib.Core.Path.{_≡_, refl, sym, ap, subst, _∙_}
 use mathlib.Core.List.{List, [], _++_}
-use lib.ListN.{length, getD, take, drop, drop-of-length-le}
+use lib.ListN.{length, getD, set, take, drop, drop-of-length-le}
 use lib.Seq.{getD-take, length-take-le, drop-drop, drop-append-seam, take-append-seam}
 use borrow.Rule.Slice.PartMut.{putMid, postOf, take-put, drop-put}
+use Rattle.sets.specs.Sets.{only}
 use Rattle.flow.specs.Box.{slot, feedersOf, feeds}
 use Rattle.flow.specs.Links.{reach, given}
 use Rattle.flow.specs.Calls.{block}
 use Rattle.flow.proofs.TableLaws.{table-length}
 use Rattle.store.specs.Maps.{part, view, withItems, cleared, itemsBy}
 use Rattle.store.specs.declared.Plan.{Plan}
-use Rattle.store.proofs.Parts.{part-at, part-past}
+use Rattle.store.proofs.Parts.{part-at, part-past, part-length}
+use Rattle.store.proofs.Worklist.{cleared-one, cleared-none}
 use Rattle.store.proofs.Spreading.{links, reach-same}
 
 pub row-bound : (w : List ℕ) → ((p : ℕ) → getD w p 0 < 2 ^ 64) → (a n q : ℕ) → getD (part a n w) q 0 < 2 ^ 64
@@ -75,6 +77,14 @@ module _ (w l d n : List ℕ) (long : length w ≡ 97) where
   pub items-cleared : (r : ℕ) → l ≡ cleared (take 64 (drop 1 w)) r → view (putMid 1 64 w l) d n ≡ withItems (view w d n) (cleared (view w d n .items) r)
   unfolding view part
   items-cleared r e = made _ (cleared-length _ r) e
+
+  pub item-cleared : (v : ℕ) → v < 64 → l ≡ set (take 64 (drop 1 w)) v 0 → view (putMid 1 64 w l) d n ≡ withItems (view w d n) (cleared (view w d n .items) (only v))
+  unfolding part
+  item-cleared v h e = items-cleared (only v) (e ∙ cleared-one (take 64 (drop 1 w)) v (part-length 1 64 w (omega arith)) h)
+
+pub none-cleared : (w d n : List ℕ) → length w ≡ 97 → view w d n ≡ withItems (view w d n) (cleared (view w d n .items) 0)
+unfolding view
+none-cleared w d n long = ap (withItems (view w d n)) (cleared-none (part 1 64 w) (part-length 1 64 w (omega arith)))
 
 -- past the last process there are no descriptors
 pub block-past : (l : List ℕ) (p : ℕ) → length l ≤ 32 * p → block l p ≡ []

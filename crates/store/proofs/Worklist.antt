@@ -11,8 +11,8 @@ use lib.Dec.{eqb}
 use lib.ListN.{getD, set, length, length-set}
 use lib.Seq.{getD-set-same, getD-set-other}
 use borrow.Author.Tests.{eq-eqb, ne-eqb}
-use Rattle.sets.specs.Sets.{has, those, without, lowest, count, _∪_}
-use Rattle.sets.proofs.Members.{itself, without-lt, none-has}
+use Rattle.sets.specs.Sets.{has, only, those, without, lowest, count, _∪_}
+use Rattle.sets.proofs.Members.{itself, without-lt, none-has, only-has}
 use Rattle.flow.specs.Lists.{table}
 use Rattle.flow.specs.Links.{given}
 use Rattle.flow.proofs.Bools.{and-l, no-both, chosen-l, chosen-r}
@@ -68,3 +68,17 @@ given-mapped l r x = refl
 pub cleared-mapped : (l : List ℕ) (r : ℕ) → mapped (λ y. 0) l r ≡ cleared l r
 unfolding cleared
 cleared-mapped l r = refl
+
+-- one container alone
+pub cleared-one : (l : List ℕ) (v : ℕ) → length l ≡ 64 → v < 64 → set l v 0 ≡ cleared l (only v)
+unfolding cleared
+cleared-one l v e h = is-table 64 _ (set l v 0) (length-set l v 0 ∙ e) (λ i k. go i (ℕ-discrete i v))
+  where
+    go : (i : ℕ) → Dec (i ≡ v) → _≡_ {A = ℕ} (getD (set l v 0) i 0) (elim (has (only v) i) [ true ↦ 0 | false ↦ getD l i 0 ])
+    go i (yes d) = ap (λ (j : ℕ). getD (set l v 0) j 0) d ∙ getD-set-same l v 0 0 (omega arith) ∙ sym (chosen-l (has (only v) i) 0 _ (only-has v i ∙ eq-eqb v i (sym d)))
+    go i (no d) = getD-set-other l v i 0 0 d ∙ sym (chosen-r (has (only v) i) 0 _ (only-has v i ∙ ne-eqb v i (λ q. d (sym q))))
+
+-- none
+pub cleared-none : (l : List ℕ) → length l ≡ 64 → l ≡ cleared l 0
+unfolding cleared
+cleared-none l e = is-table 64 _ l e (λ i h. sym (chosen-r (has 0 i) 0 (getD l i 0) (none-has i)))

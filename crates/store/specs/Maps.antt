@@ -2,6 +2,7 @@
 use Prim.Native.Nat.{ℕ}
 use mathlib.Core.Bool.{true, false}
 use mathlib.Core.List.{List, [], _∷_}
+use lib.Dec.{ltb}
 use lib.ListN.{getD, take, drop}
 use denote.Ref.{RefT}
 use denote.Triple.Both.{Both}
@@ -78,6 +79,10 @@ files = 0xFFFFFFFFFF000000
 -- the set of e alone where e is a file or pipe, else the empty set
 unfoldable pub fileSet : ℕ → ℕ
 fileSet e = elim (isFile e) [ true ↦ only e | false ↦ 0 ]
+
+-- the set of e alone where e is a container, else the empty set
+unfoldable pub containerSet : ℕ → ℕ
+containerSet e = elim (ltb e containerCount) [ true ↦ only e | false ↦ 0 ]
 
 -- the files and pipes that stand in a list of entries
 unfoldable pub filesIn : List ℕ → ℕ

@@ -1,22 +1,27 @@
 // Stores: of the live processes, of one process's links, of one entry, and of items.
 use crate::Plan;
 use crate::gifts::empty;
+use crate::gifts::empty_at;
 use crate::gifts::give;
 use crate::limits::BLOCK;
+use crate::limits::CONTAINERS;
 use crate::limits::FED_AT;
 use crate::limits::FEEDERS_AT;
 use crate::limits::ITEMS_AT;
+use crate::limits::NAMES;
 use crate::limits::PROCESSES;
+use crate::numbers::Container;
 use crate::numbers::Descriptor;
 use crate::numbers::Name;
 use crate::numbers::Process;
-ghost use Prim.Native.Nat.{ℕ};
+ghost use Prim.Native.Nat.{ℕ, _%_};
 ghost use mathlib.Core.Path.{_≡_};
 ghost use mathlib.Core.List.{List};
 ghost use lib.ListN.{set, length};
+ghost use Rattle.sets.specs.Sets.{only};
 ghost use Rattle.flow.specs.Box.{slot};
 ghost use Rattle.flow.specs.Calls.{withLive, withLinks};
-ghost use Rattle.store.specs.Maps.{view, withTables, withItems, cleared, itemsBy};
+ghost use Rattle.store.specs.Maps.{view, withTables, withItems, cleared, containerSet, itemsBy};
 
 pub fn set_live(words: &mut [u64; 97], x: u64)
     ensures { λ _. ⌜ ((d n : List ℕ) → let m = view (now (words .entry)) d n in view (now (words .exit)) d n ≡ withTables m (withLive (m .tables) x)) ⌝ }
@@ -51,9 +56,9 @@ pub fn set_descriptor(descriptors: &mut [u8; 512], p: Process, d: Descriptor, e:
 }
 
 pub fn set_name(names: &mut [u8; 128], n: Name, e: u8)
-    ensures { λ _. ⌜ now (names .exit) ≡ set (now (names .entry)) (n .0) e ⌝ }
+    ensures { λ _. ⌜ now (names .exit) ≡ set (now (names .entry)) (n .0 % 128) e ⌝ }
 {
-    set_entry(names, n.0 as usize, e);
+    names[(n.0 % NAMES) as usize] = e;
 }
 
 // Makes a plan.
@@ -92,4 +97,21 @@ pub fn empty_items(words: &mut [u64; 97], r: u64)
     ensures { λ _. ⌜ ((d n : List ℕ) → let m = view (now (words .entry)) d n in view (now (words .exit)) d n ≡ withItems m (cleared (m .items) r)) ⌝ }
 {
     empty_part(words, r);
+}
+
+fn empty_one_part(words: &mut [u64], c: u8)
+    requires { ⌜ length (now words) ≡ 97 ⌝ }
+    ensures { λ _. ⌜ ((d n : List ℕ) → let m = view (now (words .entry)) d n in view (now (words .exit)) d n ≡ withItems m (cleared (m .items) (only (c % 64)))) ⌝ }
+{
+    empty_at(&mut words[ITEMS_AT..FEEDERS_AT], c);
+}
+
+// Empties container c, where there is one of that number.
+pub fn empty_container(words: &mut [u64; 97], c: Container)
+    ensures { λ _. ⌜ ((d n : List ℕ) → let m = view (now (words .entry)) d n in view (now (words .exit)) d n ≡ withItems m (cleared (m .items) (containerSet (c .0)))) ⌝ }
+{
+    let cells: &mut [u64] = words;
+    if c.0 < CONTAINERS {
+        empty_one_part(cells, c.0);
+    }
 }

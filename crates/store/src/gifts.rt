@@ -30,7 +30,7 @@ pub fn give(items: &mut [u64], r: u64, x: u64)
 }
 
 // Empties container v.
-fn empty_at(items: &mut [u64], v: u8)
+pub fn empty_at(items: &mut [u64], v: u8)
     requires { ⌜ length (now items) ≡ 64 ⌝ }
     ensures { λ _. ⌜ now (items .exit) ≡ set (now (items .entry)) (v % 64) 0 ⌝ }
 {

@@ -7,13 +7,15 @@ use crate::limits::FED_AT;
 use crate::limits::FEEDERS_AT;
 use crate::limits::FIRST_FILE;
 use crate::limits::ITEMS_AT;
+use crate::limits::NAMES;
 use crate::limits::PROCESSES;
+use crate::limits::TARGETS;
 use crate::limits::WORDS;
 use crate::numbers::Container;
 use crate::numbers::Descriptor;
 use crate::numbers::Name;
 use crate::numbers::Process;
-ghost use Prim.Native.Nat.{ℕ};
+ghost use Prim.Native.Nat.{ℕ, _%_};
 ghost use mathlib.Core.Path.{_≡_};
 ghost use mathlib.Core.List.{List};
 ghost use lib.ListN.{getD, length};
@@ -37,7 +39,7 @@ pub fn holds(x: u64, i: u8) -> bool
 pub fn leads(e: u8) -> bool
     ensures { λ r. ⌜ r ≡ isTarget e ⌝ }
 {
-    (e < DEVICES) | ((FIRST_FILE <= e) & (e < CONTAINERS))
+    holds(TARGETS, e)
 }
 
 // An entry of a table: closed past its end.
@@ -56,10 +58,12 @@ pub fn descriptor(descriptors: &[u8; 512], p: Process, d: Descriptor) -> u8
     entry(descriptors, BLOCK * (p.0 as usize) + d.0 as usize)
 }
 
+// Names are taken as they come round: 128 is 0.
 pub fn name(names: &[u8; 128], n: Name) -> u8
-    ensures { λ r. ⌜ r ≡ getD (now (names .entry)) (n .0) closed ⌝ }
+    ensures { λ r. ⌜ r ≡ getD (now (names .entry)) (n .0 % 128) closed ⌝ }
 {
-    entry(names, n.0 as usize)
+    let entries: &[u8] = names;
+    entries[(n.0 % NAMES) as usize]
 }
 
 pub fn is_open(descriptors: &[u8; 512], p: Process, d: Descriptor) -> bool
@@ -155,10 +159,10 @@ pub fn is_fed(words: &[u64; 97], c: Container) -> bool
 pub fn in_use(words: &[u64; 97], descriptors: &[u8; 512], names: &[u8; 128], c: Container) -> bool
     ensures { λ r. ⌜ r ≡ used (mapsBefore words descriptors names .tables) (c .0) ⌝ }
 {
-    if c.0 < DEVICES {
-        return true;
-    }
     if c.0 < FIRST_FILE {
+        if c.0 < DEVICES {
+            return true;
+        }
         return is_live(words, Process(c.0 - DEVICES));
     }
     if stands(names, c.0) {

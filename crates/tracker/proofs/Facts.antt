@@ -5,7 +5,7 @@ use native.Mathlib.Nat.{mod-eq-of-lt}
 use native.Mathlib.Decide.{ℕ-discrete}
 use mathlib.Core.Path.{_≡_, refl, sym, ap, _∙_}
 use mathlib.Core.Logic.{_⊎_, inl, inr, ⊎-elim}
-use mathlib.Core.Bool.{true, false, not, false≢true}
+use mathlib.Core.Bool.{true, false, not}
 use mathlib.Core.List.{List, [], _∷_}
 use mathlib.Core.Option.{Option, none, some}
 use lib.Dec.{leb}
@@ -13,9 +13,9 @@ use lib.ListN.{getD}
 use borrow.Author.Tests.{ltb-true, eqb-true, not-false}
 use Rattle.flow.specs.Lists.{firstThat}
 use Rattle.flow.specs.Box.{closed, slot, containerOf, isFile, Tables, descriptor, isOpen}
-use Rattle.flow.specs.Calls.{Kind, create, pipe, unmap, fork, label, kindNumber}
+use Rattle.flow.specs.Calls.{Kind, kindNumber}
 use Rattle.flow.specs.Records.{kinds, kindOf, callBy, callFrom}
-use Rattle.flow.specs.Refusals.{Range, aProcess, unused, ranges, fieldsFit, inRange, missing, callTests}
+use Rattle.flow.specs.Refusals.{Range, aProcess, aName, aContainer, aFile, anItem, unused, ranges, fieldsFit, inRange, missing, callTests}
 use Rattle.flow.proofs.Bools.{and-r}
 use Rattle.flow.proofs.KindLaws.{kind-at}
 use Rattle.flow.proofs.TableLaws.{AllFalse, all-false}
@@ -23,7 +23,7 @@ use Rattle.flow.proofs.Rows.{target-lt}
 use Rattle.flow.proofs.Accepted.{Accepted, fits-process, fits-a, fits-b, fits-c}
 use Rattle.store.specs.Maps.{view}
 use Rattle.tracker.specs.declared.Call.{Call}
-use Rattle.tracker.specs.Rows.{asked, fitsAt, missingAt, Passes}
+use Rattle.tracker.specs.Rows.{asked, callAt, Passes}
 use Rattle.tracker.proofs.Arms.{kind-arm, kind-rest}
 
 pub below64 : {x : ℕ} → x < 64 → x % 64 ≡ x
@@ -53,11 +53,6 @@ module _ (q : Call) where
       let f = fits-process (ranges k) (asked q k) h in
       ⊎-elim (λ e. ltb-true _ _ (rw e at f)) (λ e. let z : q .process ≡ 0 = eqb-true _ _ (rw e at f) in omega arith) (process-range k)
 
-  at-process : (o : Option Kind) → fitsAt q o ≡ true → q .process < 16
-  unfolding fitsAt
-  at-process none h = absurd (false≢true h)
-  at-process (some k) h = fit-process k h
-
 -- ---- the tests
 pub accepted : (t : Tables) (q : Call) (k : Kind) → firstThat (callTests t (some (asked q k))) ≡ none → Accepted t (asked q k)
 unfolding callTests AllFalse
@@ -65,66 +60,52 @@ accepted t q k e =
     let g = all-false (callTests t (some (asked q k))) e in
     record { fits = not-false (fieldsFit (ranges k) (asked q k)) (g .0); lives = g .1 .0; free = g .1 .1 .0; there = g .1 .1 .1 .0 }
 
--- it fits, and misses nothing
-record Ready (t : Tables) (q : Call) (o : Option Kind) : Type 0 where
-  fit : fitsAt q o ≡ true
-  there : missingAt t q o ≡ false
-
-ready-by : (t : Tables) (q : Call) (o : Option Kind) → firstThat (callTests t (callBy o (q .process) (q .a) (q .b) (q .c))) ≡ none → Ready t q o
-unfolding callBy fitsAt missingAt callTests firstThat
-ready-by t q none e = absurd (let z : _≡_ {A = ℕ} 0 1 = cc in let y : ⊥ = omega arith in y)
-ready-by t q (some k) e = let h = accepted t q k e in record { fit = h .fits; there = h .there }
-
 module _ {words descriptors names : List ℕ} {q : Call} (h : Passes words descriptors names q) where
-  ready : Ready (view words descriptors names .tables) q (kindOf (q .kind))
-  unfolding callFrom
-  ready = ready-by (view words descriptors names .tables) q (kindOf (q .kind)) (h .none-holds)
+  at-kind : (k : Kind) → q .kind ≡ kindNumber k → Accepted (view words descriptors names .tables) (asked q k)
+  unfolding callFrom callBy
+  at-kind k e = let o : kindOf (q .kind) ≡ some k = ap kindOf e ∙ kind-at k in accepted _ q k (rw o at (h .none-holds))
+
+  some-kind : (o : Option Kind) → firstThat (callTests (view words descriptors names .tables) (callAt q o)) ≡ none → q .process < 16
+  unfolding callBy callTests firstThat
+  some-kind none e = absurd (let z : _≡_ {A = ℕ} 0 1 = cc in let y : ⊥ = omega arith in y)
+  some-kind (some k) e = fit-process q k (accepted _ q k e .fits)
 
   pub process-lt : q .process < 16
-  process-lt = at-process q (kindOf (q .kind)) (ready .fit)
+  unfolding callFrom
+  process-lt = some-kind (kindOf (q .kind)) (h .none-holds)
 
   pub process-itself : (8 + q .process) % 64 ≡ containerOf (q .process)
   process-itself = mod-eq-of-lt (omega (arith, process-lt))
 
-  pub create-file : q .kind ≡ 3 → q .c < 64
-  unfolding fitsAt ranges inRange kindOf kinds isFile
-  create-file e = ltb-true (q .c) 64 (and-r (leb 24 (q .c)) _ (fits-c (ranges create) (asked q create) (rw e at (ready .fit))))
+  -- a call of kind k: its fields, and where its descriptor leads
+  module _ (k : Kind) (e : q .kind ≡ kindNumber k) where
+    pub container-a : ranges k .a ≡ aContainer → q .a < 64
+    unfolding inRange
+    container-a r = ltb-true _ _ (rw r at (fits-a (ranges k) (asked q k) (at-kind k e .fits)))
 
-  pub pipe-file : q .kind ≡ 4 → q .c < 64
-  unfolding fitsAt ranges inRange kindOf kinds isFile
-  pipe-file e = ltb-true (q .c) 64 (and-r (leb 24 (q .c)) _ (fits-c (ranges pipe) (asked q pipe) (rw e at (ready .fit))))
+    pub process-a : ranges k .a ≡ aProcess → q .a < 16
+    unfolding inRange
+    process-a r = ltb-true _ _ (rw r at (fits-a (ranges k) (asked q k) (at-kind k e .fits)))
 
-  pub label-container : q .kind ≡ 19 → q .a < 64
-  unfolding fitsAt ranges inRange kindOf kinds
-  label-container e = ltb-true _ _ (fits-a (ranges label) (asked q label) (rw e at (ready .fit)))
+    pub own-a : ranges k .a ≡ aProcess → (8 + q .a) % 64 ≡ containerOf (q .a)
+    own-a r = mod-eq-of-lt (omega (arith, process-a r))
 
-  pub label-item : q .kind ≡ 19 → q .b < 64
-  unfolding fitsAt ranges inRange kindOf kinds
-  label-item e = ltb-true _ _ (fits-b (ranges label) (asked q label) (rw e at (ready .fit)))
+    pub name-a : ranges k .a ≡ aName → q .a % 128 ≡ q .a
+    unfolding inRange
+    name-a r = mod-eq-of-lt (ltb-true _ _ (rw r at (fits-a (ranges k) (asked q k) (at-kind k e .fits))))
 
-  pub fork-other : q .kind ≡ 17 → q .a < 16
-  unfolding fitsAt ranges inRange kindOf kinds
-  fork-other e = ltb-true _ _ (fits-a (ranges fork) (asked q fork) (rw e at (ready .fit)))
+    pub name-b : ranges k .b ≡ aName → q .b % 128 ≡ q .b
+    unfolding inRange
+    name-b r = mod-eq-of-lt (ltb-true _ _ (rw r at (fits-b (ranges k) (asked q k) (at-kind k e .fits))))
 
-  pub write-to : q .kind ≡ 9 → getD descriptors (slot (q .process) (q .a)) closed < 64
-  unfolding missingAt missing isOpen descriptor view kindOf kinds
-  write-to e = target-lt _ (not-false _ (rw e at (ready .there)))
+    pub item-b : ranges k .b ≡ anItem → q .b < 64
+    unfolding inRange
+    item-b r = ltb-true _ _ (rw r at (fits-b (ranges k) (asked q k) (at-kind k e .fits)))
 
-  pub truncate-to : q .kind ≡ 10 → getD descriptors (slot (q .process) (q .a)) closed < 64
-  unfolding missingAt missing isOpen descriptor view kindOf kinds
-  truncate-to e = target-lt _ (not-false _ (rw e at (ready .there)))
+    pub file-c : ranges k .c ≡ aFile → q .c < 64
+    unfolding inRange isFile
+    file-c r = ltb-true (q .c) 64 (and-r (leb 24 (q .c)) _ (rw r at (fits-c (ranges k) (asked q k) (at-kind k e .fits))))
 
-  pub map-both-to : q .kind ≡ 12 → getD descriptors (slot (q .process) (q .a)) closed < 64
-  unfolding missingAt missing isOpen descriptor view kindOf kinds
-  map-both-to e = target-lt _ (not-false _ (rw e at (ready .there)))
-
-  pub child-itself : q .kind ≡ 17 → (8 + q .a) % 64 ≡ containerOf (q .a)
-  child-itself e = mod-eq-of-lt (omega (arith, fork-other e))
-
-  pub unmap-container : q .kind ≡ 13 → q .a < 64
-  unfolding fitsAt ranges inRange kindOf kinds
-  unmap-container e = ltb-true _ _ (fits-a (ranges unmap) (asked q unmap) (rw e at (ready .fit)))
-
-  pub map-read-to : q .kind ≡ 11 → getD descriptors (slot (q .process) (q .a)) closed < 64
-  unfolding missingAt missing isOpen descriptor view kindOf kinds
-  map-read-to e = target-lt _ (not-false _ (rw e at (ready .there)))
+    pub leads-to : ((t : Tables) (p a b c : ℕ) → missing t p a b c k ≡ not (isOpen t p a)) → getD descriptors (slot (q .process) (q .a)) closed < 64
+    unfolding isOpen descriptor view
+    leads-to m = target-lt _ (not-false _ (sym (m _ _ _ (q .b) (q .c)) ∙ at-kind k e .there))

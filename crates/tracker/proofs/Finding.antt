@@ -1,81 +1,134 @@
--- The containers that are not in use, and those that no link leads into, as sets.
+-- What is released: of the containers whose use may have ended those that are not in use, one after the other.
 use Prim.Native.Nat.{ℕ, _%_, _^_, _<_}
 use native.Mathlib.Omega.{arith}
 use native.Mathlib.Nat.{mod-eq-of-lt}
 use native.Mathlib.Decide.{ℕ-discrete}
-use mathlib.Core.Path.{_≡_, refl, sym, ap, _∙_}
+use mathlib.Core.Path.{_≡_, refl, sym, ap, ap₂, subst, _∙_}
 use mathlib.Core.Bool.{Bool, true, false, not, _&&_, _||_, or-false, and-comm}
-use lib.Bits.{or-zero-l}
+use mathlib.Core.List.{List}
 use lib.Dec.{eqb}
-use borrow.Author.Tests.{eq-eqb, ne-eqb}
+use lib.ListN.{getD, length}
+use borrow.Author.Tests.{eqb-true, eq-eqb, ne-eqb}
 use Rattle.sets.specs.Sets.{has, only, those, without, _∪_, lowest}
-use Rattle.sets.proofs.Members.{union-has, only-has, none-has, those-has, those-lt, union-lt, only-lt, set-ext, without-lt, without-at, without-other, turn-below, member}
-use Rattle.flow.specs.Box.{Tables}
+use Rattle.sets.proofs.Members.{union-has, only-has, none-has, those-has, those-lt, only-lt, set-ext, without-lt, without-at, without-other, turn-below, member}
+use Rattle.flow.specs.Box.{Tables, isFile, closed}
 use Rattle.flow.specs.Links.{isFed, used}
 use Rattle.flow.proofs.Bools.{by, chosen-l, chosen-r}
-use Rattle.tracker.specs.Plans.{freeSet, unusedSet, goneOf}
+use Rattle.flow.proofs.TableLaws.{table-at, table-length, is-table}
+use Rattle.store.specs.Maps.{Maps, withItems, cleared, fileSet, containerSet}
+use Rattle.store.proofs.Files.{file-range, fileSet-file, fileSet-none, containerSet-low}
+use Rattle.tracker.specs.Plans.{freeSet, freeAt, unusedSet, goneOf}
 
 -- ---- what no link leads into
-pub free-none : (s : Tables) (c v : ℕ) → isFed s c ≡ true → 0 ≡ freeSet s c v
-unfolding freeSet
-free-none s c v h = sym (chosen-l (isFed s c) 0 (only v) h)
+pub free-entry : (t : Tables) (c : ℕ) → c < 64 → containerSet (freeAt t c) ≡ freeSet t c
+unfolding freeAt freeSet containerSet
+free-entry t c h = go (isFed t c)
+  where
+    go : (b : Bool) → containerSet (elim b [ true ↦ closed | false ↦ c ]) ≡ elim b [ true ↦ 0 | false ↦ only c ]
+    go true = refl
+    go false = containerSet-low c h
 
-pub free-one : (s : Tables) (c v : ℕ) → isFed s c ≡ false → only v ≡ freeSet s c v
-unfolding freeSet
-free-one s c v h = sym (chosen-r (isFed s c) 0 (only v) h)
+-- ---- what is emptied in two steps
+pub cleared-join : (l : List ℕ) (x y z : ℕ) → ((c : ℕ) → c < 64 → (has x c || has y c) ≡ has z c) → cleared (cleared l x) y ≡ cleared l z
+unfolding cleared
+cleared-join l x y z h = is-table 64 _ (cleared (cleared l x) y) (table-length 64 _) (λ c k. table-at 64 _ c 0 k ∙ ap (λ (n : ℕ). elim (has y c) [ true ↦ 0 | false ↦ n ]) (table-at 64 _ c 0 k) ∙ both (has x c) (has y c) (getD l c 0) ∙ ap (λ (b : Bool). elim b as (λ b. ℕ) [ true ↦ 0 | false ↦ getD l c 0 ]) (h c k))
+  where
+    both : (a b : Bool) (n : ℕ) → _≡_ {A = ℕ} (elim b [ true ↦ 0 | false ↦ elim a [ true ↦ 0 | false ↦ n ] ]) (elim (a || b) [ true ↦ 0 | false ↦ n ])
+    both true true n = refl
+    both true false n = refl
+    both false true n = refl
+    both false false n = refl
 
 -- ---- what is not in use
-pub unused-none : (t : Tables) (c v : ℕ) → used t c ≡ true → 0 ≡ unusedSet t c v
-unfolding unusedSet
-unused-none t c v h = sym (chosen-l (used t c) 0 (only v) h)
+module _ (t : Tables) where
+  pub unused-none : (c : ℕ) → used t c ≡ true → 0 ≡ unusedSet t c
+  unfolding unusedSet
+  unused-none c h = sym (chosen-l (used t c) 0 (containerSet c) h)
 
-pub unused-one : (t : Tables) (c v : ℕ) → used t c ≡ false → only v ≡ unusedSet t c v
-unfolding unusedSet
-unused-one t c v h = sym (chosen-r (used t c) 0 (only v) h)
+  pub unused-one : (c : ℕ) → used t c ≡ false → containerSet c ≡ unusedSet t c
+  unfolding unusedSet
+  unused-one c h = sym (chosen-r (used t c) 0 (containerSet c) h)
 
-unused-has : (t : Tables) (v c : ℕ) → has (unusedSet t v v) c ≡ (eqb v c && not (used t v))
-unused-has t v c =
-    by (used t v)
-    (λ h. rw (← (unused-none t v v h), none-has c, h) (and-comm false (eqb v c)))
-    (λ h. rw (← (unused-one t v v h), only-has v c, h) (and-comm true (eqb v c)))
+  unused-has : (v c : ℕ) → v < 64 → has (unusedSet t v) c ≡ (eqb v c && not (used t v))
+  unused-has v c l =
+      by (used t v)
+      (λ h. rw (← (unused-none v h), none-has c, h) (and-comm false (eqb v c)))
+      (λ h. rw (← (unused-one v h), containerSet-low v l, only-has v c, h) (and-comm true (eqb v c)))
 
-unused-lt : (t : Tables) (v : ℕ) → v < 64 → unusedSet t v v < 2 ^ 64
-unused-lt t v l = by (used t v) (λ h. rw (← (unused-none t v v h)) (omega arith)) (λ h. rw (← (unused-one t v v h)) (only-lt v l))
+  unused-lt : (v : ℕ) → v < 64 → unusedSet t v < 2 ^ 64
+  unused-lt v l = by (used t v) (λ h. rw (← (unused-none v h)) (omega arith)) (λ h. rw (← (unused-one v h), containerSet-low v l) (only-lt v l))
 
--- found: those of the set lost that are not in use, but for what is left
-pub record Finding (t : Tables) (lost found left : ℕ) : Type 0 where
-  pub small : left < 2 ^ 64
-  pub fits : found < 2 ^ 64
-  pub same : (c : ℕ) → c < 64 → (has found c || (has left c && not (used t c))) ≡ (has lost c && not (used t c))
-
-pub finding-start : (t : Tables) (lost : ℕ) → lost < 2 ^ 64 → Finding t lost 0 lost
-finding-start t lost h = record { small = h; fits = omega arith; same = λ c k. rw (none-has c) refl }
-
-module _ {t : Tables} {lost found left : ℕ} (f : Finding t lost found left) where
-  pub finding-end : left ≡ 0 → found ≡ goneOf t lost
+  gone-has : (x c : ℕ) → c < 64 → has (goneOf t x) c ≡ (has x c && not (used t c))
   unfolding goneOf
-  finding-end e =
-      set-ext found _ (f .fits) (those-lt _)
-      (λ c k. sym (ap (λ (b : Bool). has found c || (b && not (used t c))) (ap (λ (x : ℕ). has x c) e ∙ none-has c) ∙ or-false (has found c)) ∙ f .same c k ∙ sym (those-has _ c k))
+  gone-has x c h = those-has _ c h
 
-  pub finding-more : (left ≡ 0 → ⊥) → (v : ℕ) → v ≡ lowest left → (u later : ℕ) → u ≡ unusedSet t v (v % 64) → later ≡ without left (v % 64) → Finding t lost (found ∪ u) later
-  finding-more more v is u later e g =
-      let l : v < 64 = turn-below left (f .small) more v is in
-      let k : v % 64 ≡ v = mod-eq-of-lt l in
-      rw (e, g, k)
+  gone-lt : (x : ℕ) → goneOf t x < 2 ^ 64
+  unfolding goneOf
+  gone-lt x = those-lt _
+
+  pub gone-none : goneOf t 0 ≡ 0
+  gone-none = set-ext _ 0 (gone-lt 0) (omega arith) (λ c h. gone-has 0 c h ∙ rw (none-has c) refl)
+
+  -- of a file or pipe alone
+  pub gone-file : (e : ℕ) → isFile e ≡ true → unusedSet t e ≡ goneOf t (fileSet e)
+  gone-file e f =
+      let l : e < 64 = file-range e f .1 in
+      set-ext _ _ (unused-lt e l) (gone-lt _)
+      (λ c h.
+      let here : has (goneOf t (fileSet e)) c ≡ (eqb e c && not (used t c)) = gone-has (fileSet e) c h ∙ rw (fileSet-file e f, only-has e c) refl in
+      let same : (eqb e c && not (used t e)) ≡ (eqb e c && not (used t c)) = by (eqb e c) (λ q. rw (eqb-true e c q) refl) (λ q. rw q refl) in
+      unused-has e c l ∙ same ∙ sym here)
+
+  pub gone-no-file : (e : ℕ) → isFile e ≡ false → 0 ≡ goneOf t (fileSet e)
+  gone-no-file e f = sym (ap (goneOf t) (fileSet-none e f) ∙ gone-none)
+
+  -- of two sets
+  pub gone-both : (x y c : ℕ) → c < 64 → (has (goneOf t x) c || has (goneOf t y) c) ≡ has (goneOf t (x ∪ y)) c
+  gone-both x y c h = rw (gone-has x c h, gone-has y c h, gone-has (x ∪ y) c h, union-has x y c) (split (has x c) (has y c) (not (used t c)))
+    where
+      split : (a b n : Bool) → ((a && n) || (b && n)) ≡ ((a || b) && n)
+      split true true true = refl
+      split true true false = refl
+      split true false true = refl
+      split true false false = refl
+      split false true true = refl
+      split false true false = refl
+      split false false true = refl
+      split false false false = refl
+
+  -- of a set less one member, and that member
+  gone-turn : (left v : ℕ) → v < 64 → has left v ≡ true → (c : ℕ) → c < 64 → (has (unusedSet t v) c || has (goneOf t (without left v)) c) ≡ has (goneOf t left) c
+  gone-turn left v l m c h = rw (unused-has v c l, gone-has (without left v) c h, gone-has left c h) (go (ℕ-discrete c v))
+    where
+      go : Dec (c ≡ v) → ((eqb v c && not (used t v)) || (has (without left v) c && not (used t c))) ≡ (has left c && not (used t c))
+      go (yes d) = rw (without-at left v c h d, eq-eqb v c (sym d), or-false, d, m)
+      go (no d) = rw (without-other left v c h d, ne-eqb v c (λ q. d (sym q)))
+
+-- ---- the loop: what is left leads to the whole
+pub record Releasing (m₀ m : Maps) (held left : ℕ) : Type 0 where
+  pub small : left < 2 ^ 64
+  pub long : length (m .items) ≡ 64
+  pub tables : m .tables ≡ m₀ .tables
+  pub same : cleared (m .items) (goneOf (m₀ .tables) left) ≡ cleared (m₀ .items) (goneOf (m₀ .tables) held)
+
+pub releasing-start : (m : Maps) (held : ℕ) → held < 2 ^ 64 → length (m .items) ≡ 64 → Releasing m m held held
+releasing-start m held h l = record { small = h; long = l; tables = refl; same = refl }
+
+module _ {m₀ m : Maps} {held left : ℕ} (r : Releasing m₀ m held left) where
+  pub releasing-more : (left ≡ 0 → ⊥) → (v : ℕ) → v ≡ lowest left → (m′ : Maps) (later : ℕ) → m′ ≡ withItems m (cleared (m .items) (unusedSet (m .tables) v)) → later ≡ without left (v % 64) → Releasing m₀ m′ held later
+  unfolding cleared
+  releasing-more more v is m′ later e g =
+      let l : v < 64 = turn-below left (r .small) more v is in
+      rw (e, g, mod-eq-of-lt l, r .tables)
       (record {
         small = without-lt left v;
-        fits = union-lt found _ (f .fits) (unused-lt t v l);
-        same = λ c h. rw (union-has found (unusedSet t v v) c, unused-has t v c) (go c h l (ℕ-discrete c v));
+        long = table-length 64 _;
+        tables = refl;
+        same = cleared-join (m .items) _ _ _ (gone-turn (m₀ .tables) left v l (member left (r .small) more v is)) ∙ r .same;
       })
-    where
-      go : (c : ℕ) → c < 64 → v < 64 → Dec (c ≡ v) → ((has found c || (eqb v c && not (used t v))) || (has (without left v) c && not (used t c))) ≡ (has lost c && not (used t c))
-      go c h l (yes d) =
-          let w : (has found v || (true && not (used t v))) ≡ (has lost v && not (used t v)) = ap (λ (b : Bool). has found v || (b && not (used t v))) (sym (member left (f .small) more v is)) ∙ f .same v l in
-          rw (without-at left v c h d, eq-eqb v c (sym d), or-false, d) w
-      go c h l (no d) = rw (without-other left v c h d, ne-eqb v c (λ q. d (sym q)), or-false) (f .same c h)
 
--- the first of them
-pub finding-first : {t : Tables} {lost : ℕ} → lost < 2 ^ 64 → (lost ≡ 0 → ⊥) → (v : ℕ) → v ≡ lowest lost → (u later : ℕ) → u ≡ unusedSet t v (v % 64) → later ≡ without lost (v % 64) → Finding t lost u later
-unfolding _∪_
-finding-first {t} {lost} h more v is u later e g = rw (or-zero-l u) at (finding-more (finding-start t lost h) more v is u later e g)
+  pub releasing-end : left ≡ 0 → m ≡ withItems m₀ (cleared (m₀ .items) (goneOf (m₀ .tables) held))
+  unfolding cleared
+  releasing-end e =
+      let none : m .items ≡ cleared (m .items) (goneOf (m₀ .tables) left) = is-table 64 _ (m .items) (r .long) (λ c h. sym (chosen-r (has (goneOf (m₀ .tables) left) c) 0 (getD (m .items) c 0) (rw (e, gone-none (m₀ .tables)) (none-has c)))) in
+      ap₂ (λ (t : Tables) (l : List ℕ). record { tables = t; items = l }) (r .tables) (none ∙ r .same)

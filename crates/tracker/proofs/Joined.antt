@@ -239,7 +239,7 @@ module _ (m : Maps) (long : length (m .items) ≡ 64) (lf : length (m .tables .f
   drops link h l = refl
   drops fork h l = refl
   drops label h l = refl
-  drops truncate h l = ap (λ (x : ℕ). cleared (cleared l x) (gone truncate)) (sym (choice (λ (f : Flow). emptiedOf m long f ≡ freeSet (m .tables) (descriptor (m .tables) (q .process) (q .a)) (descriptor (m .tables) (q .process) (q .a))) (isFed (m .tables) (descriptor (m .tables) (q .process) (q .a))) still (clear (descriptor (m .tables) (q .process) (q .a))) (λ e. sym (chosen-l _ 0 _ e)) (λ e. sym (chosen-r _ 0 _ e))))
+  drops truncate h l = ap (λ (x : ℕ). cleared (cleared l x) (gone truncate)) (sym (choice (λ (f : Flow). emptiedOf m long f ≡ freeSet (m .tables) (descriptor (m .tables) (q .process) (q .a))) (isFed (m .tables) (descriptor (m .tables) (q .process) (q .a))) still (clear (descriptor (m .tables) (q .process) (q .a))) (λ e. sym (chosen-l _ 0 _ e)) (λ e. sym (chosen-r _ 0 _ e))))
   drops exit h l = dropped l (gone exit) (containerOf (q .process)) (exit-gone h)
 
   -- the items moved, then what is no longer in use emptied

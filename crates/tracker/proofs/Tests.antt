@@ -1,16 +1,16 @@
 -- The rows together decide as the list of tests does.
 use Prim.Native.Nat.{ℕ}
-use mathlib.Core.Path.{_≡_, refl}
+use mathlib.Core.Path.{_≡_, refl, sym, ap, _∙_}
 use mathlib.Core.Bool.{Bool, true, false, not, true≢false, false≢true}
 use mathlib.Core.List.{[], _∷_}
 use mathlib.Core.Option.{Option, none, some}
 use Rattle.flow.specs.Lists.{_⇒_, firstThat, refusalFrom}
 use Rattle.flow.specs.Box.{Tables}
-use Rattle.flow.specs.Calls.{Kind, Call as Asked}
+use Rattle.flow.specs.Calls.{Kind}
 use Rattle.flow.specs.Records.{kindOf, callBy, callFrom}
 use Rattle.flow.specs.Refusals.{dead, taken, missing, callTests}
 use Rattle.tracker.specs.declared.Call.{Call}
-use Rattle.tracker.specs.Rows.{callIn, known, fitsAt, deadAt, takenAt, missingAt, sameAt, noFileAt}
+use Rattle.tracker.specs.Rows.{callAt, callIn, known, fitsAt, deadAt, takenAt, missingAt, sameAt, noFileAt}
 
 -- the number of the first that holds of dead process, taken, missing, same twice and no file, and 0 where none holds
 unfoldable lowestOf : Bool → Bool → Bool → Bool → Bool → ℕ
@@ -39,66 +39,58 @@ unfit-five true d t m x y h = absurd (true≢false h)
 unfit-five false d t m x y h = refl
 
 module _ (t : Tables) (q : Call) where
-  -- the call where the kind is known or not
-  abbrev called : Option Kind → Option Asked
-  called o = callBy o (q .process) (q .a) (q .b) (q .c)
-
-  lowest-by : (o : Option Kind) → fitsAt q o ≡ true
-      → refusalFrom (lowestOf (deadAt t q o) (takenAt t q o) (missingAt t q o) (sameAt q o) (noFileAt t q o)) ≡ firstThat (callTests t (called o))
+  lowest-first : (o : Option Kind) → fitsAt q o ≡ true
+      → refusalFrom (lowestOf (deadAt t q o) (takenAt t q o) (missingAt t q o) (sameAt q o) (noFileAt t q o)) ≡ firstThat (callTests t (callAt q o))
   unfolding fitsAt deadAt takenAt missingAt sameAt noFileAt callBy callTests
-  lowest-by none h = absurd (false≢true h)
-  lowest-by (some k) h = by-tests _ _ _ _ _ _ h
+  lowest-first none h = absurd (false≢true h)
+  lowest-first (some k) h = by-tests _ _ _ _ _ _ h
 
-  abbrev kind : Option Kind
-  kind = kindOf (q .kind)
-
-  lowest-first : fitsAt q kind ≡ true → refusalFrom (lowestOf (deadAt t q kind) (takenAt t q kind) (missingAt t q kind) (sameAt q kind) (noFileAt t q kind)) ≡ firstThat (callTests t (callIn q))
-  unfolding callFrom
-  lowest-first h = lowest-by kind h
-
-  -- the call fits: the first row that holds decides
-  module _ (fit : fitsAt q kind ≡ true) where
-    pub six-first : deadAt t q kind ≡ true → refusalFrom 6 ≡ firstThat (callTests t (callIn q))
-    unfolding lowestOf
-    six-first d = rw d at (lowest-first fit)
-
-    module _ (lives : deadAt t q kind ≡ false) where
-      pub seven-first : takenAt t q kind ≡ true → refusalFrom 7 ≡ firstThat (callTests t (callIn q))
+  -- the kind, known or not
+  module _ (o : Option Kind) where
+    -- the call fits: the first row that holds decides
+    module _ (fit : fitsAt q o ≡ true) where
+      pub six-first : deadAt t q o ≡ true → refusalFrom 6 ≡ firstThat (callTests t (callAt q o))
       unfolding lowestOf
-      seven-first a = rw (lives, a) at (lowest-first fit)
+      six-first d = rw d at (lowest-first o fit)
 
-      module _ (free : takenAt t q kind ≡ false) where
-        pub eight-first : missingAt t q kind ≡ true → refusalFrom 8 ≡ firstThat (callTests t (callIn q))
+      module _ (lives : deadAt t q o ≡ false) where
+        pub seven-first : takenAt t q o ≡ true → refusalFrom 7 ≡ firstThat (callTests t (callAt q o))
         unfolding lowestOf
-        eight-first m = rw (lives, free, m) at (lowest-first fit)
+        seven-first a = rw (lives, a) at (lowest-first o fit)
 
-        module _ (there : missingAt t q kind ≡ false) where
-          pub nine-first : sameAt q kind ≡ true → refusalFrom 9 ≡ firstThat (callTests t (callIn q))
+        module _ (free : takenAt t q o ≡ false) where
+          pub eight-first : missingAt t q o ≡ true → refusalFrom 8 ≡ firstThat (callTests t (callAt q o))
           unfolding lowestOf
-          nine-first x = rw (lives, free, there, x) at (lowest-first fit)
+          eight-first m = rw (lives, free, m) at (lowest-first o fit)
 
-          pub ten-first : sameAt q kind ≡ false → noFileAt t q kind ≡ true → refusalFrom 10 ≡ firstThat (callTests t (callIn q))
-          unfolding lowestOf
-          ten-first x y = rw (lives, free, there, x, y) at (lowest-first fit)
+          module _ (there : missingAt t q o ≡ false) where
+            pub nine-first : sameAt q o ≡ true → refusalFrom 9 ≡ firstThat (callTests t (callAt q o))
+            unfolding lowestOf
+            nine-first x = rw (lives, free, there, x) at (lowest-first o fit)
 
-          pub none-first : sameAt q kind ≡ false → noFileAt t q kind ≡ false → refusalFrom 0 ≡ firstThat (callTests t (callIn q))
-          unfolding lowestOf
-          none-first x y = rw (lives, free, there, x, y) at (lowest-first fit)
+            pub ten-first : sameAt q o ≡ false → noFileAt t q o ≡ true → refusalFrom 10 ≡ firstThat (callTests t (callAt q o))
+            unfolding lowestOf
+            ten-first x y = rw (lives, free, there, x, y) at (lowest-first o fit)
 
-  five-by : (o : Option Kind) → known o ≡ true → fitsAt q o ≡ false → refusalFrom 5 ≡ firstThat (callTests t (called o))
+            pub none-first : sameAt q o ≡ false → noFileAt t q o ≡ false → refusalFrom 0 ≡ firstThat (callTests t (callAt q o))
+            unfolding lowestOf
+            none-first x y = rw (lives, free, there, x, y) at (lowest-first o fit)
+
+  pub five-first : (o : Option Kind) → known o ≡ true → fitsAt q o ≡ false → refusalFrom 5 ≡ firstThat (callTests t (callAt q o))
   unfolding known fitsAt callBy callTests
-  five-by none h g = absurd (false≢true h)
-  five-by (some k) h g = unfit-five _ _ _ _ _ _ g
+  five-first none h g = absurd (false≢true h)
+  five-first (some k) h g = unfit-five _ _ _ _ _ _ g
 
-  pub five-first : known (kindOf (q .kind)) ≡ true → fitsAt q (kindOf (q .kind)) ≡ false → refusalFrom 5 ≡ firstThat (callTests t (callIn q))
-  unfolding callFrom
-  five-first h g = five-by (kindOf (q .kind)) h g
-
-  four-by : (o : Option Kind) → known o ≡ false → refusalFrom 4 ≡ firstThat (callTests t (called o))
+  pub four-first : (o : Option Kind) → known o ≡ false → refusalFrom 4 ≡ firstThat (callTests t (callAt q o))
   unfolding known callBy callTests firstThat refusalFrom
-  four-by none h = refl
-  four-by (some k) h = absurd (true≢false h)
+  four-first none h = refl
+  four-first (some k) h = absurd (true≢false h)
 
-  pub four-first : known (kindOf (q .kind)) ≡ false → refusalFrom 4 ≡ firstThat (callTests t (callIn q))
+  -- what holds of the call at its kind's number holds of the call
+  pub at-kind : {n : ℕ} (r : ℕ) → q .kind ≡ n → refusalFrom r ≡ firstThat (callTests t (callAt q (kindOf n))) → refusalFrom r ≡ firstThat (callTests t (callIn q))
   unfolding callFrom
-  four-first h = four-by (kindOf (q .kind)) h
+  at-kind r e h = h ∙ ap (λ (n : ℕ). firstThat (callTests t (callAt q (kindOf n)))) (sym e)
+
+  pub unknown-four : known (kindOf (q .kind)) ≡ false → refusalFrom 4 ≡ firstThat (callTests t (callIn q))
+  unfolding callFrom
+  unknown-four h = four-first (kindOf (q .kind)) h

@@ -4,12 +4,13 @@ use mathlib.Core.Bool.{Bool, true, false, not, _&&_}
 use mathlib.Core.Option.{Option, none, some}
 use lib.ListN.{getD}
 use Rattle.sets.specs.Sets.{has, only, those, _∪_, _∩_}
-use Rattle.flow.specs.Box.{containerOf, Tables, feedersOf, feeds, descriptor, name}
+use Rattle.flow.specs.Box.{closed, containerOf, Tables, feedersOf, feeds, descriptor, name}
 use Rattle.flow.specs.Links.{reach, isFed, used}
 use Rattle.flow.specs.Calls.{Kind, start, openName, create, pipe, device, dup, close, read, write, truncate, mapRead, mapBoth, unmap, unlink, rename, link, fork, exit, label, Flow, still, gift, arrival, exchange, copy, clear, block, flowBy}
 use Rattle.store.specs.declared.Plan.{Plan}
-use Rattle.store.specs.Maps.{Maps, files, fileSet, filesIn}
+use Rattle.store.specs.Maps.{Maps, files, fileSet, containerSet, filesIn}
 use Rattle.tracker.specs.declared.Call.{Call}
+use Rattle.tracker.specs.declared.release.Lost.{Lost}
 
 -- ---- plans
 abbrev pub plan : ℕ → ℕ → ℕ → ℕ → ℕ → Plan
@@ -83,9 +84,13 @@ givesAt none = false
 givesAt (some k) = givesBy k
 
 -- ---- what is emptied
--- the set of v where no link leads into c
-unfoldable pub freeSet : Tables → ℕ → ℕ → ℕ
-freeSet t c v = elim (isFed t c) [ true ↦ 0 | false ↦ only v ]
+-- the set of c where no link leads into c
+unfoldable pub freeSet : Tables → ℕ → ℕ
+freeSet t c = elim (isFed t c) [ true ↦ 0 | false ↦ only c ]
+
+-- the same as an entry: c itself, or closed
+unfoldable pub freeAt : Tables → ℕ → ℕ
+freeAt t c = elim (isFed t c) [ true ↦ closed | false ↦ c ]
 
 -- the containers that a call empties; a fork's child is emptied by its plan, and the process of an exit is among those whose use it ends
 unfoldable pub emptiedBy : Tables → ℕ → ℕ → ℕ → ℕ → Kind → ℕ
@@ -98,7 +103,7 @@ emptiedBy t p a b c dup = 0
 emptiedBy t p a b c close = 0
 emptiedBy t p a b c read = 0
 emptiedBy t p a b c write = 0
-emptiedBy t p a b c truncate = freeSet t (descriptor t p a) (descriptor t p a)
+emptiedBy t p a b c truncate = freeSet t (descriptor t p a)
 emptiedBy t p a b c mapRead = 0
 emptiedBy t p a b c mapBoth = 0
 emptiedBy t p a b c unmap = 0
@@ -144,9 +149,13 @@ unfoldable pub lostAt : Tables → Call → Option Kind → ℕ
 lostAt t q none = 0
 lostAt t q (some k) = lostBy t (q .process) (q .a) (q .b) (q .c) k
 
--- the set of v where c is not in use
-unfoldable pub unusedSet : Tables → ℕ → ℕ → ℕ
-unusedSet t c v = elim (used t c) [ true ↦ 0 | false ↦ only v ]
+-- the lost of an entry and a set
+abbrev pub lostSet : Lost → ℕ
+lostSet lost = fileSet (lost .entry) ∪ lost .held
+
+-- the set of c where it is a container that is not in use
+unfoldable pub unusedSet : Tables → ℕ → ℕ
+unusedSet t c = elim (used t c) [ true ↦ 0 | false ↦ containerSet c ]
 
 -- of the set lost, those that are not in use
 unfoldable pub goneOf : Tables → ℕ → ℕ

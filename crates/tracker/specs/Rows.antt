@@ -7,13 +7,17 @@ use mathlib.Core.Option.{Option, none, some}
 use Rattle.flow.specs.Lists.{firstThat}
 use Rattle.flow.specs.Box.{Tables, isLive}
 use Rattle.flow.specs.Calls.{Kind, Call as Asked, tablesBy}
-use Rattle.flow.specs.Records.{callFrom}
+use Rattle.flow.specs.Records.{callBy, callFrom}
 use Rattle.flow.specs.Refusals.{ranges, fieldsFit, dead, taken, missing, sameDescriptors, noFile, callTests}
 use Rattle.store.specs.Maps.{view}
 use Rattle.tracker.specs.declared.Call.{Call}
 
 abbrev pub asked : Call → Kind → Asked
 asked q k = record { kind = k; process = q .process; a = q .a; b = q .b; c = q .c }
+
+-- the same where the kind is known or not
+abbrev pub callAt : Call → Option Kind → Option Asked
+callAt q o = callBy o (q .process) (q .a) (q .b) (q .c)
 
 -- the call of the five bytes, if its kind is known
 abbrev pub callIn : Call → Option Asked

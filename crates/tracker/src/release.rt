@@ -2,9 +2,11 @@
 use crate::Call;
 use store::blocks::FILES;
 use store::blocks::block_files;
-use store::blocks::file_set;
-use store::cells::empty_items;
+use store::cells::empty_container;
+use store::limits::CLOSED;
+use store::limits::CONTAINERS;
 use store::limits::DEVICES;
+use store::limits::FIRST_FILE;
 use store::lookups::descriptor;
 use store::lookups::fed;
 use store::lookups::feeders;
@@ -15,13 +17,13 @@ use store::numbers::Container;
 use store::numbers::Descriptor;
 use store::numbers::Name;
 use store::numbers::Process;
-ghost use Prim.Native.Nat.{ℕ, _%_};
+ghost use Prim.Native.Nat.{ℕ};
 ghost use mathlib.Core.Path.{_≡_};
 ghost use mathlib.Core.List.{List};
 ghost use Rattle.flow.specs.Records.{kindOf};
-ghost use Rattle.store.specs.Maps.{view, withItems, cleared, mapsBefore, mapsAfter};
+ghost use Rattle.store.specs.Maps.{view, withItems, cleared, fileSet, containerSet, mapsBefore, mapsAfter};
 ghost use Rattle.tracker.specs.Rows.{Passes};
-ghost use Rattle.tracker.specs.Plans.{heldBy, lostAt, freeSet, emptiedAt, unusedSet, goneOf};
+ghost use Rattle.tracker.specs.Plans.{heldBy, lostSet, lostAt, freeAt, emptiedAt, unusedSet, goneOf};
 
 // The files and pipes that process p leads to or maps.
 fn held_by(words: &[u64; 97], descriptors: &[u8; 512], p: u8) -> u64
@@ -31,88 +33,111 @@ fn held_by(words: &[u64; 97], descriptors: &[u8; 512], p: u8) -> u64
         | ((feeders(words, Process(p)) | fed(words, Process(p))) & FILES)
 }
 
-// The containers that a call that is not refused may end the use of.
-pub fn lost_by(words: &[u64; 97], descriptors: &[u8; 512], names: &[u8; 128], q: Call) -> u64
+// What a call may end the use of: what an entry leads to, where that is a file or pipe, and a set of containers.
+pub struct Lost {
+    pub entry: u8,
+    pub held: u64,
+}
+
+fn losing(entry: u8, held: u64) -> Lost
+    ensures { λ r. ⌜ r ≡ record { entry = entry; held = held } ⌝ }
+{
+    Lost { entry, held }
+}
+
+// What a call that is not refused may end the use of.
+pub fn lost_by(words: &[u64; 97], descriptors: &[u8; 512], names: &[u8; 128], q: Call) -> Lost
     requires { ⌜ Passes (now words) (now descriptors) (now names) q ⌝ }
-    ensures { λ r. ⌜ r ≡ lostAt (mapsBefore words descriptors names .tables) q (kindOf (q .kind)) ⌝ }
+    ensures { λ r. ⌜ lostSet r ≡ lostAt (mapsBefore words descriptors names .tables) q (kindOf (q .kind)) ⌝ }
 {
     let kind = q.kind;
     let p = q.process;
     let a = q.a;
     let b = q.b;
     match kind {
-        7 => file_set(descriptor(descriptors, Process(p), Descriptor(a))),
-        13 => file_set(a),
-        14 => file_set(name(names, Name(a))),
-        15 => file_set(name(names, Name(b))),
-        17 => held_by(words, descriptors, a),
-        18 => sets::with(held_by(words, descriptors, p), DEVICES + p),
-        _ => 0,
+        7 => losing(descriptor(descriptors, Process(p), Descriptor(a)), 0),
+        13 => losing(a, 0),
+        14 => losing(name(names, Name(a)), 0),
+        15 => losing(name(names, Name(b)), 0),
+        17 => losing(CLOSED, held_by(words, descriptors, a)),
+        18 => losing(
+            CLOSED,
+            sets::with(held_by(words, descriptors, p), DEVICES + p),
+        ),
+        _ => losing(CLOSED, 0),
     }
 }
 
-// The set of c alone, where no link leads into c.
-fn free_set(words: &[u64; 97], c: u8) -> u64
-    ensures { λ r. ⌜ ((d n : List ℕ) → r ≡ freeSet (view (now (words .entry)) d n .tables) c (c % 64)) ⌝ }
+// The container c, where no link leads into it.
+fn free(words: &[u64; 97], c: u8) -> u8
+    ensures { λ r. ⌜ ((d n : List ℕ) → r ≡ freeAt (view (now (words .entry)) d n .tables) c) ⌝ }
 {
     if is_fed(words, Container(c)) {
-        return 0;
+        return CLOSED;
     }
-    sets::with(0, c)
+    c
 }
 
-// The containers that a call that is not refused empties, whatever their use. A fork's child is emptied by its plan, and an exit's process is
+// The container that a call that is not refused empties, whatever its use. A fork's child is emptied by its plan, and an exit's process is
 // among the lost.
-pub fn emptied_by(words: &[u64; 97], descriptors: &[u8; 512], names: &[u8; 128], q: Call) -> u64
+pub fn emptied_by(words: &[u64; 97], descriptors: &[u8; 512], names: &[u8; 128], q: Call) -> u8
     requires { ⌜ Passes (now words) (now descriptors) (now names) q ⌝ }
-    ensures { λ r. ⌜ r ≡ emptiedAt (mapsBefore words descriptors names .tables) q (kindOf (q .kind)) ⌝ }
+    ensures { λ r. ⌜ containerSet r ≡ emptiedAt (mapsBefore words descriptors names .tables) q (kindOf (q .kind)) ⌝ }
 {
     let kind = q.kind;
     let p = q.process;
     let a = q.a;
     let c = q.c;
     match kind {
-        1 => sets::with(0, DEVICES + p),
-        3 => sets::with(0, c),
-        4 => sets::with(0, c),
-        10 => free_set(words, descriptor(descriptors, Process(p), Descriptor(a))),
-        _ => 0,
+        1 => DEVICES + p,
+        3 => c,
+        4 => c,
+        10 => free(words, descriptor(descriptors, Process(p), Descriptor(a))),
+        _ => CLOSED,
     }
 }
 
-// The set of v alone, where v is not in use.
-fn unused_set(words: &[u64; 97], descriptors: &[u8; 512], names: &[u8; 128], v: u8) -> u64
-    ensures { λ r. ⌜ r ≡ unusedSet (mapsBefore words descriptors names .tables) v (v % 64) ⌝ }
+// What an entry leads to, where that is a file or pipe that is not in use.
+fn unused(words: &[u64; 97], descriptors: &[u8; 512], names: &[u8; 128], e: u8) -> u8
+    ensures { λ r. ⌜ containerSet r ≡ goneOf (mapsBefore words descriptors names .tables) (fileSet e) ⌝ }
 {
-    if in_use(words, descriptors, names, Container(v)) {
-        return 0;
+    if !((FIRST_FILE <= e) & (e < CONTAINERS)) {
+        return CLOSED;
     }
-    sets::with(0, v)
+    if in_use(words, descriptors, names, Container(e)) {
+        return CLOSED;
+    }
+    e
 }
 
-// Of the set lost, those that are not in use.
-fn gone(words: &[u64; 97], descriptors: &[u8; 512], names: &[u8; 128], lost: u64) -> u64
-    ensures { λ r. ⌜ r ≡ goneOf (mapsBefore words descriptors names .tables) lost ⌝ }
+// Empties container v, where it is not in use.
+fn release_one(words: &mut [u64; 97], descriptors: &[u8; 512], names: &[u8; 128], v: u8)
+    ensures { λ _. ⌜ (let m = mapsBefore words descriptors names in mapsAfter words descriptors names ≡ withItems m (cleared (m .items) (unusedSet (m .tables) v))) ⌝ }
 {
-    if lost == 0 {
-        return 0;
+    sets::lengths(words, names);
+    if !in_use(words, descriptors, names, Container(v)) {
+        empty_container(words, Container(v));
     }
-    // Most calls lose one at most.
-    let first = sets::lowest(lost) as u8;
-    let mut found = unused_set(words, descriptors, names, first);
-    let mut left = sets::without(lost, first);
+}
+
+// Empties each container of the set held that is not in use.
+fn release_each(words: &mut [u64; 97], descriptors: &[u8; 512], names: &[u8; 128], held: u64)
+    ensures { λ _. ⌜ (let m = mapsBefore words descriptors names in mapsAfter words descriptors names ≡ withItems m (cleared (m .items) (goneOf (m .tables) held))) ⌝ }
+{
+    sets::lengths(words, names);
+    let mut left = held;
     while left != 0 {
         let v = sets::lowest(left) as u8;
-        found = found | unused_set(words, descriptors, names, v);
+        release_one(words, descriptors, names, v);
         left = sets::without(left, v);
     }
-    found
 }
 
-// Empties each container of the set lost that is not in use.
-pub fn release(words: &mut [u64; 97], descriptors: &[u8; 512], names: &[u8; 128], lost: u64)
-    ensures { λ _. ⌜ (let m = mapsBefore words descriptors names in mapsAfter words descriptors names ≡ withItems m (cleared (m .items) (goneOf (m .tables) lost))) ⌝ }
+// Empties each container that is among the lost and not in use.
+pub fn release(words: &mut [u64; 97], descriptors: &[u8; 512], names: &[u8; 128], lost: Lost)
+    ensures { λ _. ⌜ (let m = mapsBefore words descriptors names in mapsAfter words descriptors names ≡ withItems m (cleared (m .items) (goneOf (m .tables) (lostSet lost)))) ⌝ }
 {
-    let x = gone(words, descriptors, names, lost);
-    empty_items(words, x);
+    let c = unused(words, descriptors, names, lost.entry);
+    empty_container(words, Container(c));
+    release_each(words, descriptors, names, lost.held);
 }

@@ -15,7 +15,7 @@ use store::lookups::name;
 use store::numbers::Descriptor;
 use store::numbers::Name;
 use store::numbers::Process;
-ghost use Prim.Native.Nat.{ℕ, _<_};
+ghost use Prim.Native.Nat.{ℕ, _<_, _%_};
 ghost use mathlib.Core.Path.{_≡_};
 ghost use mathlib.Core.List.{List};
 ghost use lib.ListN.{getD, set};
@@ -75,7 +75,7 @@ fn unmap(words: &mut [u64; 97], p: u8, c: u8)
 
 // Name b leads where a does.
 fn link(names: &mut [u8; 128], a: u8, b: u8)
-    ensures { λ _. ⌜ now (names .exit) ≡ set (now (names .entry)) b (getD (now (names .entry)) a closed) ⌝ }
+    ensures { λ _. ⌜ now (names .exit) ≡ set (now (names .entry)) (b % 128) (getD (now (names .entry)) (a % 128) closed) ⌝ }
 {
     let to = name(names, Name(a));
     set_name(names, Name(b), to);
@@ -83,7 +83,7 @@ fn link(names: &mut [u8; 128], a: u8, b: u8)
 
 // Name b leads where a did, and a is unbound.
 fn rename(names: &mut [u8; 128], a: u8, b: u8)
-    ensures { λ _. ⌜ now (names .exit) ≡ set (set (now (names .entry)) a closed) b (getD (now (names .entry)) a closed) ⌝ }
+    ensures { λ _. ⌜ now (names .exit) ≡ set (set (now (names .entry)) (a % 128) closed) (b % 128) (getD (now (names .entry)) (a % 128) closed) ⌝ }
 {
     let to = name(names, Name(a));
     set_name(names, Name(a), CLOSED);

@@ -13,28 +13,27 @@ use Rattle.store.proofs.lookups.in_use.Tie as tie
 
 returns : tie.Need-returns
 unfolding isDevice
-returns c = sym (used-device _ _ (lt-ltb _ 8 (c .if1 .taken)))
+returns c = sym (used-device _ _ (lt-ltb _ 8 (c .if2 .taken)))
 
 returns-2 : tie.Need-returns-2
 unfolding view
 returns-2 c =
     let c2 = c .before .before in
-    let c4 = c2 .before .before in
-    c .is-live .ensures ∙ sym (used-number _ _ (c4 .if1 .left) (c2 .if2 .taken))
+    c .is-live .ensures ∙ sym (used-number _ _ (c2 .if2 .left) (c2 .before .before .if1 .taken))
 
 returns-3 : tie.Need-returns-3
 unfolding view
 returns-3 c =
     let c1 = c .before in
     let c3 = c1 .before .before in
-    sym (used-held _ _ (c3 .if2 .left) ∙ rw (← c1 .stands .ensures, c .if3 .taken))
+    sym (used-held _ _ (c3 .if1 .left) ∙ rw (← c1 .stands .ensures, c .if3 .taken))
 
 returns-4 : tie.Need-returns-4
 unfolding view
 returns-4 c =
     let c1 = c .before in
     let c6 = c1 .before .before .before .before .before in
-    sym (used-held _ _ (c6 .if2 .left) ∙ rw (← c1 .stands2 .ensures, c .if4 .taken, or-true))
+    sym (used-held _ _ (c6 .if1 .left) ∙ rw (← c1 .stands2 .ensures, c .if4 .taken, or-true))
 
 returns-5 : tie.Need-returns-5
 unfolding view
@@ -45,13 +44,13 @@ returns-5 c =
     let c6 = c4 .before .before in
     let c7 = c6 .before in
     let c9 = c7 .before .before in
-    let c13 = c9 .before .before .before .before in
+    let c13 = c9 .before .before in
     let q = c13 .args in
     let t : Tables = view (q .words .now) (q .descriptors .now) (q .names .now) .tables in
     c .holds .ensures
     ∙ rw (c1 .mapped .ensures)
     (mapped-has t _ (part-length 81 16 _ (search needs)) (part-length 65 16 _ (search needs))
-    ∙ sym (used-held t _ (c9 .if2 .left) ∙ rw (← c7 .stands .ensures, c6 .if3 .left, ← c4 .stands2 .ensures, c3 .if4 .left)))
+    ∙ sym (used-held t _ (c9 .if1 .left) ∙ rw (← c7 .stands .ensures, c6 .if3 .left, ← c4 .stands2 .ensures, c3 .if4 .left)))
 
 pub in-use-spec : {M : Type 1} → statement M
 in-use-spec =

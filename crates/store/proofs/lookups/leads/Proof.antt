@@ -1,12 +1,12 @@
 -- `leads` is the test of document 01.
-use mathlib.Core.Path.{refl}
-use Rattle.flow.specs.Box.{isDevice, isFile, isTarget}
+use mathlib.Core.Path.{_∙_}
+use Rattle.store.proofs.Files.{targets-has}
+use borrow.Author.Needs.{needs}
 use Rattle.store.proofs.lookups.leads.Statement.{statement}
 use Rattle.store.proofs.lookups.leads.Tie as tie
 
 returns : tie.Need-returns
-unfolding isTarget isDevice isFile
-returns c = refl
+returns c = c .holds .ensures ∙ targets-has _
 
 pub leads-spec : {M : Type 1} → statement M
-leads-spec = tie.close (tie.spec returns)
+leads-spec = tie.close (tie.spec (λ c κs. search needs) returns)

@@ -23,7 +23,7 @@ returns c =
     let c14 = c10 .before .before .before .before in
     let d = c6 .change-tables .last .1 .0 in
     let n = c6 .change-tables .last .1 .1 .0 in
-    c .release .ensures ∙ rw (c4 .empty-items .ensures d n, c6 .change-tables .ensures, c10 .emptied-by .ensures, c14 .lost-by .ensures) refl
+    c .release .ensures ∙ rw (c4 .empty-container .ensures d n, c6 .change-tables .ensures, c10 .emptied-by .ensures, c14 .lost-by .ensures) refl
 
 pub finish-spec : {M : Type 1} → statement M
 finish-spec = tie.close (tie.spec lost-by-requires emptied-by-requires change-tables-requires (λ c κs. search needs) (λ c κs. search needs) returns)

@@ -5,13 +5,14 @@ use mathlib.Core.List.{[], _∷_}
 use mathlib.Core.Option.{Option}
 use Rattle.sets.specs.Sets.{_∪_}
 use Rattle.flow.specs.Box.{descriptor}
-use Rattle.flow.specs.Calls.{Kind, flowBy}
+use Rattle.flow.specs.Calls.{Kind, write, mapBoth, fork, label, kindNumber, flowBy}
 use Rattle.flow.specs.Records.{kinds}
+use Rattle.flow.specs.Refusals.{ranges, missing}
 use Rattle.store.specs.declared.Plan.{Plan}
 use Rattle.store.specs.Maps.{view}
 use Rattle.tracker.specs.Plans.{planOf, planBy, planAt}
 use Rattle.tracker.proofs.Arms.{kind-arm, kind-rest}
-use Rattle.tracker.proofs.Facts.{below64, process-lt, process-itself, label-container, label-item, fork-other, child-itself, write-to, map-both-to}
+use Rattle.tracker.proofs.Facts.{below64, process-lt, process-itself, container-a, process-a, own-a, item-b, leads-to}
 use borrow.Author.Needs.{needs}
 use Rattle.tracker.proofs.plan.plan_of.Statement.{statement}
 use Rattle.tracker.proofs.plan.plan_of.Tie as tie
@@ -33,10 +34,11 @@ add-own-4 : tie.Need-add-own-4
 add-own-4 c = omega (arith, process-lt (c .before .before .pre))
 
 add-with : tie.Need-add-with
-add-with c = omega (arith, fork-other (c .before .pre) (c .match .keys4))
+unfolding kindNumber ranges
+add-with c = omega (arith, process-a (c .before .pre) fork (c .match .keys4) refl)
 
 returns : tie.Need-returns
-unfolding view _∪_ planAt planBy planOf flowBy kinds descriptor
+unfolding view _∪_ planAt planBy planOf flowBy kinds descriptor kindNumber ranges missing
 returns c =
     let m = c .before .before .before .before in
     let s = m .before in
@@ -45,42 +47,42 @@ returns c =
     rw (c .giving .ensures, c .before .reach .ensures D N, c .before .before .items .ensures, c .before .before .before .descriptor .ensures, process-itself (s .pre)) (kind-arm (row s) (8 ∷ 11 ∷ []) _ refl _ (m .match .keys1))
 
 returns-2 : tie.Need-returns-2
-unfolding view _∪_ planAt planBy planOf flowBy kinds descriptor
+unfolding view _∪_ planAt planBy planOf flowBy kinds descriptor kindNumber ranges missing
 returns-2 c =
     let m = c .before .before .before .before in
     let s = m .before in
     let D = s .args .descriptors .now in
     let N = s .args .names .now in
-    rw (c .giving2 .ensures, c .before .reach2 .ensures D N, c .before .before .items2 .ensures, c .before .before .before .descriptor2 .ensures, below64 (write-to (s .pre) (m .match .keys2))) (kind-arm (row s) (9 ∷ []) _ refl _ (m .match .keys2))
+    rw (c .giving2 .ensures, c .before .reach2 .ensures D N, c .before .before .items2 .ensures, c .before .before .before .descriptor2 .ensures, below64 (leads-to (s .pre) write (m .match .keys2) (λ t p a b c. refl))) (kind-arm (row s) (9 ∷ []) _ refl _ (m .match .keys2))
 
 returns-3 : tie.Need-returns-3
-unfolding view _∪_ planAt planBy planOf flowBy kinds descriptor
+unfolding view _∪_ planAt planBy planOf flowBy kinds descriptor kindNumber ranges missing
 returns-3 c =
     let m = c .before .before .before .before .before in
     let s = m .before in
     let D = s .args .descriptors .now in
     let N = s .args .names .now in
     let c2 = c .before .before in
-    rw (c .reach4 .ensures D N, c .before .items4 .ensures, c2 .reach3 .ensures D N, c2 .before .items3 .ensures, c2 .before .before .descriptor3 .ensures, below64 (map-both-to (s .pre) (m .match .keys3)), process-itself (s .pre)) (kind-arm (row s) (12 ∷ []) _ refl _ (m .match .keys3))
+    rw (c .reach4 .ensures D N, c .before .items4 .ensures, c2 .reach3 .ensures D N, c2 .before .items3 .ensures, c2 .before .before .descriptor3 .ensures, below64 (leads-to (s .pre) mapBoth (m .match .keys3) (λ t p a b c. refl)), process-itself (s .pre)) (kind-arm (row s) (12 ∷ []) _ refl _ (m .match .keys3))
 
 returns-4 : tie.Need-returns-4
-unfolding view _∪_ planAt planBy planOf flowBy kinds descriptor
+unfolding view _∪_ planAt planBy planOf flowBy kinds descriptor kindNumber ranges missing
 returns-4 c =
     let m = c .before .before in
     let s = m .before in
-    rw (c .items5 .ensures, c .before .with .ensures, child-itself (s .pre) (m .match .keys4)) (kind-arm (row s) (17 ∷ []) _ refl _ (m .match .keys4))
+    rw (c .items5 .ensures, c .before .with .ensures, own-a (s .pre) fork (m .match .keys4) refl) (kind-arm (row s) (17 ∷ []) _ refl _ (m .match .keys4))
 
 returns-5 : tie.Need-returns-5
-unfolding view _∪_ planAt planBy planOf flowBy kinds descriptor
+unfolding view _∪_ planAt planBy planOf flowBy kinds descriptor kindNumber ranges missing
 returns-5 c =
     let m = c .before .before .before in
     let s = m .before in
     let D = s .args .descriptors .now in
     let N = s .args .names .now in
-    rw (c .giving3 .ensures, c .before .reach5 .ensures D N, c .before .before .with2 .ensures, below64 (label-container (s .pre) (m .match .keys5)), below64 (label-item (s .pre) (m .match .keys5))) (kind-arm (row s) (19 ∷ []) _ refl _ (m .match .keys5))
+    rw (c .giving3 .ensures, c .before .reach5 .ensures D N, c .before .before .with2 .ensures, below64 (container-a (s .pre) label (m .match .keys5) refl), below64 (item-b (s .pre) label (m .match .keys5) refl)) (kind-arm (row s) (19 ∷ []) _ refl _ (m .match .keys5))
 
 returns-6 : tie.Need-returns-6
-unfolding view _∪_ planAt planBy planOf flowBy kinds descriptor
+unfolding view _∪_ planAt planBy planOf flowBy kinds descriptor kindNumber ranges missing
 returns-6 c =
     let m = c .before in
     c .giving4 .ensures ∙ kind-rest (row (m .before)) ((19 ∷ []) ∷ (17 ∷ []) ∷ (12 ∷ []) ∷ (9 ∷ []) ∷ (8 ∷ 11 ∷ []) ∷ []) refl _ (m .match .rest)

@@ -4,13 +4,15 @@ use native.Mathlib.Omega.{arith}
 use mathlib.Core.Path.{refl, _∙_}
 use mathlib.Core.List.{[], _∷_}
 use mathlib.Core.Option.{Option}
-use Rattle.flow.specs.Box.{descriptor, name}
-use Rattle.flow.specs.Calls.{Kind}
+use Rattle.sets.proofs.Unions.{none-union, union-none}
+use Rattle.flow.specs.Box.{descriptor, name, isFile}
+use Rattle.flow.specs.Calls.{Kind, unlink, rename, kindNumber}
 use Rattle.flow.specs.Records.{kinds}
-use Rattle.store.specs.Maps.{view}
+use Rattle.flow.specs.Refusals.{ranges}
+use Rattle.store.specs.Maps.{view, fileSet}
 use Rattle.tracker.proofs.Arms.{kind-arm, kind-rest}
 use Rattle.tracker.specs.Plans.{lostBy, lostAt}
-use Rattle.tracker.proofs.Facts.{process-lt, process-itself}
+use Rattle.tracker.proofs.Facts.{process-lt, process-itself, name-a, name-b}
 use borrow.Author.Needs.{needs}
 use Rattle.tracker.proofs.release.lost_by.Statement.{statement}
 use Rattle.tracker.proofs.release.lost_by.Tie as tie
@@ -19,61 +21,55 @@ abbrev row : tie.Start → Option Kind → ℕ
 row c = lostAt (view (c .args .words .now) (c .args .descriptors .now) (c .args .names .now) .tables) (c .args .q)
 
 add-with : tie.Need-add-with
-add-with c =
-    let c2 = c .before .before in
-    omega (arith, process-lt (c2 .pre))
+add-with c = omega (arith, process-lt (c .before .before .pre))
 
 returns : tie.Need-returns
 unfolding view lostAt lostBy kinds descriptor
 returns c =
-    let c1 = c .before in
-    let c2 = c1 .before in
-    let c3 = c2 .before in
-    rw (c .file-set .ensures, c1 .descriptor .ensures) (kind-arm (row (c3)) (7 ∷ []) _ refl _ (c2 .match .keys1))
+    let m = c .before .before in
+    let s = m .before in
+    rw (c .losing .ensures, c .before .descriptor .ensures, union-none) (kind-arm (row s) (7 ∷ []) _ refl _ (m .match .keys1))
 
 returns-2 : tie.Need-returns-2
 unfolding view lostAt lostBy kinds
 returns-2 c =
-    let c1 = c .before in
-    let c2 = c1 .before in
-    rw (c .file-set2 .ensures) (kind-arm (row (c2)) (13 ∷ []) _ refl _ (c1 .match .keys2))
+    let m = c .before in
+    let s = m .before in
+    rw (c .losing2 .ensures, union-none) (kind-arm (row s) (13 ∷ []) _ refl _ (m .match .keys2))
 
 returns-3 : tie.Need-returns-3
-unfolding view lostAt lostBy kinds name
+unfolding view lostAt lostBy kinds name kindNumber ranges
 returns-3 c =
-    let c1 = c .before in
-    let c2 = c1 .before in
-    let c3 = c2 .before in
-    rw (c .file-set3 .ensures, c1 .name .ensures) (kind-arm (row (c3)) (14 ∷ []) _ refl _ (c2 .match .keys3))
+    let m = c .before .before in
+    let s = m .before in
+    rw (c .losing3 .ensures, c .before .name .ensures, union-none, name-a (s .pre) unlink (m .match .keys3) refl) (kind-arm (row s) (14 ∷ []) _ refl _ (m .match .keys3))
 
 returns-4 : tie.Need-returns-4
-unfolding view lostAt lostBy kinds name
+unfolding view lostAt lostBy kinds name kindNumber ranges
 returns-4 c =
-    let c1 = c .before in
-    let c2 = c1 .before in
-    let c3 = c2 .before in
-    rw (c .file-set4 .ensures, c1 .name2 .ensures) (kind-arm (row (c3)) (15 ∷ []) _ refl _ (c2 .match .keys4))
+    let m = c .before .before in
+    let s = m .before in
+    rw (c .losing4 .ensures, c .before .name2 .ensures, union-none, name-b (s .pre) rename (m .match .keys4) refl) (kind-arm (row s) (15 ∷ []) _ refl _ (m .match .keys4))
 
 returns-5 : tie.Need-returns-5
-unfolding lostAt lostBy kinds
+unfolding view lostAt lostBy kinds fileSet isFile
 returns-5 c =
-    let c1 = c .before in
-    let c2 = c1 .before in
-    c .held-by .ensures (c2 .args .names .now) ∙ kind-arm (row (c2)) (17 ∷ []) _ refl _ (c1 .match .keys5)
+    let m = c .before .before in
+    let s = m .before in
+    rw (c .losing5 .ensures, c .before .held-by .ensures (s .args .names .now), none-union) (kind-arm (row s) (17 ∷ []) _ refl _ (m .match .keys5))
 
 returns-6 : tie.Need-returns-6
-unfolding lostAt lostBy kinds
+unfolding view lostAt lostBy kinds fileSet isFile
 returns-6 c =
-    let c1 = c .before in
-    let c2 = c1 .before in
-    let c3 = c2 .before in
-    rw (c .with .ensures, c1 .held-by2 .ensures (c3 .args .names .now), process-itself (c3 .pre)) (kind-arm (row (c3)) (18 ∷ []) _ refl _ (c2 .match .keys6))
+    let m = c .before .before .before in
+    let s = m .before in
+    rw (c .losing6 .ensures, c .before .with .ensures, c .before .before .held-by2 .ensures (s .args .names .now), process-itself (s .pre), none-union) (kind-arm (row s) (18 ∷ []) _ refl _ (m .match .keys6))
 
 returns-7 : tie.Need-returns-7
-unfolding lostAt lostBy kinds
+unfolding lostAt lostBy kinds fileSet isFile
 returns-7 c =
-    let c1 = c .before in
-    kind-rest (row (c1)) ((18 ∷ []) ∷ (17 ∷ []) ∷ (15 ∷ []) ∷ (14 ∷ []) ∷ (13 ∷ []) ∷ (7 ∷ []) ∷ []) refl _ (c .match .rest)
+    let m = c .before in
+    rw (c .losing7 .ensures, none-union) (kind-rest (row (m .before)) ((18 ∷ []) ∷ (17 ∷ []) ∷ (15 ∷ []) ∷ (14 ∷ []) ∷ (13 ∷ []) ∷ (7 ∷ []) ∷ []) refl _ (m .match .rest))
 
 pub lost-by-spec : {M : Type 1} → statement M
 lost-by-spec =
@@ -88,7 +84,10 @@ lost-by-spec =
     (λ c κs. search needs)
     (λ c κs. search needs)
     (λ c κs. search needs)
+    (λ c κs. search needs)
     add-with
+    (λ c κs. search needs)
+    (λ c κs. search needs)
     (λ c κs. search needs)
     returns
     returns-2

@@ -1,75 +1,74 @@
--- `refusal` is the first of the tests: each row is asked where none before it held.
-use mathlib.Core.Path.{_≡_, sym, _∙_}
-use mathlib.Core.Bool.{true, false}
-use borrow.Author.Tests.{not-true, not-false}
-use Rattle.flow.specs.Records.{kindOf}
-use Rattle.store.specs.Maps.{view}
-use Rattle.tracker.specs.Rows.{fitsAt, deadAt, takenAt, missingAt}
-use Rattle.tracker.proofs.Tests.{four-first, five-first, six-first, seven-first, eight-first, nine-first, ten-first, none-first}
+-- `refusal` asks the rows at the number of the call's kind.
+use mathlib.Core.Path.{refl, sym}
+use mathlib.Core.List.{[], _∷_}
+use Rattle.flow.specs.Records.{kinds}
+use Rattle.tracker.specs.Rows.{known}
+use Rattle.tracker.proofs.Arms.{kind-rest}
+use Rattle.tracker.proofs.Tests.{at-kind, unknown-four}
 use borrow.Author.Needs.{needs}
 use Rattle.tracker.proofs.rows.refusal.Statement.{statement}
 use Rattle.tracker.proofs.rows.refusal.Tie as tie
 
--- ---- what is known behind each row
-fit : (c : tie.Else1) → (let q = c .before .before .args .q in fitsAt q (kindOf (q .kind)) ≡ true)
-fit c = sym (c .before .fits2 .ensures) ∙ not-false _ (c .if1 .left)
-
-lives : (c : tie.Else3) → (let a = c .before .before .before .before .args in deadAt (view (a .words .now) (a .descriptors .now) (a .names .now) .tables) (a .q) (kindOf (a .q .kind)) ≡ false)
-lives c = let a = c .before .before .before .before .args in sym (c .before .is-dead .ensures (a .descriptors .now) (a .names .now)) ∙ c .if3 .left
-
-free : (c : tie.Else4) → (let a = c .before .before .before .before .before .before .args in takenAt (view (a .words .now) (a .descriptors .now) (a .names .now) .tables) (a .q) (kindOf (a .q .kind)) ≡ false)
-free c = sym (c .before .is-taken .ensures) ∙ c .if4 .left
-
-there : (c : tie.Else5) → (let a = c .before .before .before .before .before .before .before .before .args in missingAt (view (a .words .now) (a .descriptors .now) (a .names .now) .tables) (a .q) (kindOf (a .q .kind)) ≡ false)
-there c = sym (c .before .is-missing .ensures) ∙ c .if5 .left
-
 returns : tie.Need-returns
-returns c = let c2 = c .before .before in five-first _ _ (sym (c .before .is-known .ensures) ∙ c .if2 .taken) (sym (c2 .before .fits2 .ensures) ∙ not-true _ (c2 .if1 .taken))
+returns c = at-kind _ _ _ (c .before .match .keys1) (c .first .ensures)
 
 returns-2 : tie.Need-returns-2
-returns-2 c = four-first _ _ (sym (c .before .is-known .ensures) ∙ c .if2 .left)
+returns-2 c = at-kind _ _ _ (c .before .match .keys2) (c .first2 .ensures)
 
 returns-3 : tie.Need-returns-3
-returns-3 c =
-    let c2 = c .before .before in
-    let a = c2 .before .before .args in
-    six-first _ _ (fit c2) (sym (c .before .is-dead .ensures (a .descriptors .now) (a .names .now)) ∙ c .if3 .taken)
+returns-3 c = at-kind _ _ _ (c .before .match .keys3) (c .first3 .ensures)
 
 returns-4 : tie.Need-returns-4
-returns-4 c = let c2 = c .before .before in seven-first _ _ (fit (c2 .before .before)) (lives c2) (sym (c .before .is-taken .ensures) ∙ c .if4 .taken)
+returns-4 c = at-kind _ _ _ (c .before .match .keys4) (c .first4 .ensures)
 
 returns-5 : tie.Need-returns-5
-returns-5 c =
-    let c2 = c .before .before in
-    let c4 = c2 .before .before in
-    eight-first _ _ (fit (c4 .before .before)) (lives c4) (free c2) (sym (c .before .is-missing .ensures) ∙ c .if5 .taken)
+returns-5 c = at-kind _ _ _ (c .before .match .keys5) (c .first5 .ensures)
 
 returns-6 : tie.Need-returns-6
-returns-6 c =
-    let c2 = c .before .before in
-    let c4 = c2 .before .before in
-    let c6 = c4 .before .before in
-    nine-first _ _ (fit (c6 .before .before)) (lives c6) (free c4) (there c2) (sym (c .before .is-same .ensures) ∙ c .if6 .taken)
+returns-6 c = at-kind _ _ _ (c .before .match .keys6) (c .first6 .ensures)
 
 returns-7 : tie.Need-returns-7
-returns-7 c =
-    let c2 = c .before .before in
-    let c4 = c2 .before .before in
-    let c6 = c4 .before .before in
-    let c8 = c6 .before .before in
-    let c10 = c8 .before .before in
-    let a = c10 .before .before .args in
-    ten-first _ _ (fit c10) (lives c8) (free c6) (there c4) (sym (c2 .before .is-same .ensures) ∙ c2 .if6 .left) (sym (c .before .is-no-file .ensures (a .words .now) (a .names .now)) ∙ c .if7 .taken)
+returns-7 c = at-kind _ _ _ (c .before .match .keys7) (c .first7 .ensures)
 
 returns-8 : tie.Need-returns-8
-returns-8 c =
-    let c2 = c .before .before in
-    let c4 = c2 .before .before in
-    let c6 = c4 .before .before in
-    let c8 = c6 .before .before in
-    let c10 = c8 .before .before in
-    let a = c10 .before .before .args in
-    none-first _ _ (fit c10) (lives c8) (free c6) (there c4) (sym (c2 .before .is-same .ensures) ∙ c2 .if6 .left) (sym (c .before .is-no-file .ensures (a .words .now) (a .names .now)) ∙ c .if7 .left)
+returns-8 c = at-kind _ _ _ (c .before .match .keys8) (c .first8 .ensures)
+
+returns-9 : tie.Need-returns-9
+returns-9 c = at-kind _ _ _ (c .before .match .keys9) (c .first9 .ensures)
+
+returns-10 : tie.Need-returns-10
+returns-10 c = at-kind _ _ _ (c .before .match .keys10) (c .first10 .ensures)
+
+returns-11 : tie.Need-returns-11
+returns-11 c = at-kind _ _ _ (c .before .match .keys11) (c .first11 .ensures)
+
+returns-12 : tie.Need-returns-12
+returns-12 c = at-kind _ _ _ (c .before .match .keys12) (c .first12 .ensures)
+
+returns-13 : tie.Need-returns-13
+returns-13 c = at-kind _ _ _ (c .before .match .keys13) (c .first13 .ensures)
+
+returns-14 : tie.Need-returns-14
+returns-14 c = at-kind _ _ _ (c .before .match .keys14) (c .first14 .ensures)
+
+returns-15 : tie.Need-returns-15
+returns-15 c = at-kind _ _ _ (c .before .match .keys15) (c .first15 .ensures)
+
+returns-16 : tie.Need-returns-16
+returns-16 c = at-kind _ _ _ (c .before .match .keys16) (c .first16 .ensures)
+
+returns-17 : tie.Need-returns-17
+returns-17 c = at-kind _ _ _ (c .before .match .keys17) (c .first17 .ensures)
+
+returns-18 : tie.Need-returns-18
+returns-18 c = at-kind _ _ _ (c .before .match .keys18) (c .first18 .ensures)
+
+returns-19 : tie.Need-returns-19
+returns-19 c = at-kind _ _ _ (c .before .match .keys19) (c .first19 .ensures)
+
+returns-20 : tie.Need-returns-20
+unfolding known kinds
+returns-20 c = unknown-four _ _ (sym (kind-rest known ((19 ∷ []) ∷ (18 ∷ []) ∷ (17 ∷ []) ∷ (16 ∷ []) ∷ (15 ∷ []) ∷ (14 ∷ []) ∷ (13 ∷ []) ∷ (12 ∷ []) ∷ (11 ∷ []) ∷ (10 ∷ []) ∷ (9 ∷ []) ∷ (8 ∷ []) ∷ (7 ∷ []) ∷ (6 ∷ []) ∷ (5 ∷ []) ∷ (4 ∷ []) ∷ (3 ∷ []) ∷ (2 ∷ []) ∷ (1 ∷ []) ∷ []) refl _ (c .match .rest)))
 
 pub refusal-spec : {M : Type 1} → statement M
-refusal-spec = tie.close (tie.spec (λ c κs. search needs) (λ c κs. search needs) returns returns-2 (λ c κs. search needs) returns-3 (λ c κs. search needs) returns-4 (λ c κs. search needs) returns-5 (λ c κs. search needs) returns-6 (λ c κs. search needs) returns-7 returns-8)
+refusal-spec = tie.close (tie.spec (λ c κs. search needs) (λ c κs. search needs) (λ c κs. search needs) (λ c κs. search needs) (λ c κs. search needs) (λ c κs. search needs) (λ c κs. search needs) (λ c κs. search needs) (λ c κs. search needs) (λ c κs. search needs) (λ c κs. search needs) (λ c κs. search needs) (λ c κs. search needs) (λ c κs. search needs) (λ c κs. search needs) (λ c κs. search needs) (λ c κs. search needs) (λ c κs. search needs) (λ c κs. search needs) returns returns-2 returns-3 returns-4 returns-5 returns-6 returns-7 returns-8 returns-9 returns-10 returns-11 returns-12 returns-13 returns-14 returns-15 returns-16 returns-17 returns-18 returns-19 returns-20)

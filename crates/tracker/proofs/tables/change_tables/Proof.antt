@@ -3,12 +3,13 @@ use mathlib.Core.Path.{refl, _∙_}
 use mathlib.Core.List.{[], _∷_}
 use mathlib.Core.Option.{Option}
 use Rattle.flow.specs.Box.{descriptor, name, feedersOf, feeds}
-use Rattle.flow.specs.Calls.{Kind, withLive, withLinks, withDescriptors, withNames, tablesBy}
+use Rattle.flow.specs.Calls.{Kind, openName, create, mapRead, mapBoth, unmap, unlink, rename, link, fork, kindNumber, withLive, withLinks, withDescriptors, withNames, tablesBy}
 use Rattle.flow.specs.Records.{kinds}
+use Rattle.flow.specs.Refusals.{ranges, missing}
 use Rattle.store.specs.Maps.{Maps, withTables, view}
 use Rattle.tracker.specs.Rows.{tablesAt}
 use Rattle.tracker.proofs.Arms.{kind-arm, kind-rest}
-use Rattle.tracker.proofs.Facts.{process-lt, unmap-container, fork-other, map-read-to, map-both-to}
+use Rattle.tracker.proofs.Facts.{process-lt, container-a, process-a, name-a, name-b, leads-to}
 use borrow.Author.Needs.{needs}
 use Rattle.tracker.proofs.tables.change_tables.Statement.{statement}
 use Rattle.tracker.proofs.tables.change_tables.Tie as tie
@@ -21,16 +22,20 @@ start-requires : tie.Need-start-requires
 start-requires c κs = process-lt (c .before .before .pre)
 
 map-read-requires : tie.Need-map-read-requires
-map-read-requires c κs = let m = c .before .before .before in (process-lt (m .before .pre), rw (c .descriptor .ensures) (map-read-to (m .before .pre) (m .match .keys8)))
+unfolding kindNumber missing
+map-read-requires c κs = let m = c .before .before .before in (process-lt (m .before .pre), rw (c .descriptor .ensures) (leads-to (m .before .pre) mapRead (m .match .keys8) (λ t p a b c. refl)))
 
 map-both-requires : tie.Need-map-both-requires
-map-both-requires c κs = let m = c .before .before .before in (process-lt (m .before .pre), rw (c .descriptor2 .ensures) (map-both-to (m .before .pre) (m .match .keys9)))
+unfolding kindNumber missing
+map-both-requires c κs = let m = c .before .before .before in (process-lt (m .before .pre), rw (c .descriptor2 .ensures) (leads-to (m .before .pre) mapBoth (m .match .keys9) (λ t p a b c. refl)))
 
 unmap-requires : tie.Need-unmap-requires
-unmap-requires c κs = let m = c .before in (process-lt (m .before .pre), unmap-container (m .before .pre) (m .match .keys10))
+unfolding kindNumber ranges
+unmap-requires c κs = let m = c .before in (process-lt (m .before .pre), container-a (m .before .pre) unmap (m .match .keys10) refl)
 
 fork-requires : tie.Need-fork-requires
-fork-requires c κs = let m = c .before .before in (process-lt (m .before .pre), fork-other (m .before .pre) (m .match .keys14))
+unfolding kindNumber ranges
+fork-requires c κs = let m = c .before .before in (process-lt (m .before .pre), process-a (m .before .pre) fork (m .match .keys14) refl)
 
 exit-requires : tie.Need-exit-requires
 exit-requires c κs = process-lt (c .before .before .before .pre)
@@ -41,14 +46,14 @@ returns c =
     let m = c .before .before in let s = m .before in c .start .ensures (s .args .descriptors .now) (s .args .names .now) ∙ kind-arm (row s) (1 ∷ []) _ refl _ (m .match .keys1)
 
 returns-2 : tie.Need-returns-2
-unfolding view withLive withLinks withDescriptors withNames tablesAt tablesBy kinds descriptor name feedersOf feeds
+unfolding view withLive withLinks withDescriptors withNames tablesAt tablesBy kinds descriptor name feedersOf feeds kindNumber ranges
 returns-2 c =
-    let m = c .before .before .before .before in let s = m .before in rw (c .set-descriptor .ensures, c .before .name .ensures) (kind-arm (row s) (2 ∷ []) _ refl _ (m .match .keys2))
+    let m = c .before .before .before .before in let s = m .before in rw (c .set-descriptor .ensures, c .before .name .ensures, name-a (s .pre) openName (m .match .keys2) refl) (kind-arm (row s) (2 ∷ []) _ refl _ (m .match .keys2))
 
 returns-3 : tie.Need-returns-3
-unfolding view withLive withLinks withDescriptors withNames tablesAt tablesBy kinds descriptor name feedersOf feeds
+unfolding view withLive withLinks withDescriptors withNames tablesAt tablesBy kinds descriptor name feedersOf feeds kindNumber ranges
 returns-3 c =
-    let m = c .before .before .before .before in let s = m .before in rw (c .set-name .ensures, c .before .before .set-descriptor2 .ensures) (kind-arm (row s) (3 ∷ []) _ refl _ (m .match .keys3))
+    let m = c .before .before .before .before in let s = m .before in rw (c .set-name .ensures, c .before .before .set-descriptor2 .ensures, name-a (s .pre) create (m .match .keys3) refl) (kind-arm (row s) (3 ∷ []) _ refl _ (m .match .keys3))
 
 returns-4 : tie.Need-returns-4
 unfolding view withLive withLinks withDescriptors withNames tablesAt tablesBy kinds descriptor name feedersOf feeds
@@ -86,19 +91,19 @@ returns-10 c =
     let m = c .before .before in let s = m .before in c .unmap .ensures (s .args .descriptors .now) (s .args .names .now) ∙ kind-arm (row s) (13 ∷ []) _ refl _ (m .match .keys10)
 
 returns-11 : tie.Need-returns-11
-unfolding view withLive withLinks withDescriptors withNames tablesAt tablesBy kinds descriptor name feedersOf feeds
+unfolding view withLive withLinks withDescriptors withNames tablesAt tablesBy kinds descriptor name feedersOf feeds kindNumber ranges
 returns-11 c =
-    let m = c .before .before in let s = m .before in rw (c .set-name2 .ensures) (kind-arm (row s) (14 ∷ []) _ refl _ (m .match .keys11))
+    let m = c .before .before in let s = m .before in rw (c .set-name2 .ensures, name-a (s .pre) unlink (m .match .keys11) refl) (kind-arm (row s) (14 ∷ []) _ refl _ (m .match .keys11))
 
 returns-12 : tie.Need-returns-12
-unfolding view withLive withLinks withDescriptors withNames tablesAt tablesBy kinds descriptor name feedersOf feeds
+unfolding view withLive withLinks withDescriptors withNames tablesAt tablesBy kinds descriptor name feedersOf feeds kindNumber ranges
 returns-12 c =
-    let m = c .before .before in let s = m .before in rw (c .rename .ensures) (kind-arm (row s) (15 ∷ []) _ refl _ (m .match .keys12))
+    let m = c .before .before in let s = m .before in rw (c .rename .ensures, name-a (s .pre) rename (m .match .keys12) refl, name-b (s .pre) rename (m .match .keys12) refl) (kind-arm (row s) (15 ∷ []) _ refl _ (m .match .keys12))
 
 returns-13 : tie.Need-returns-13
-unfolding view withLive withLinks withDescriptors withNames tablesAt tablesBy kinds descriptor name feedersOf feeds
+unfolding view withLive withLinks withDescriptors withNames tablesAt tablesBy kinds descriptor name feedersOf feeds kindNumber ranges
 returns-13 c =
-    let m = c .before .before in let s = m .before in rw (c .link .ensures) (kind-arm (row s) (16 ∷ []) _ refl _ (m .match .keys13))
+    let m = c .before .before in let s = m .before in rw (c .link .ensures, name-a (s .pre) link (m .match .keys13) refl, name-b (s .pre) link (m .match .keys13) refl) (kind-arm (row s) (16 ∷ []) _ refl _ (m .match .keys13))
 
 returns-14 : tie.Need-returns-14
 unfolding view withLive withLinks withDescriptors withNames tablesAt tablesBy kinds descriptor name feedersOf feeds

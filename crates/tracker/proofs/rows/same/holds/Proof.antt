@@ -1,4 +1,4 @@
--- `is_same` is the row of test 9.
+-- `same::holds` is the row of test 9.
 use mathlib.Core.Path.{refl}
 use mathlib.Core.Bool.{Bool}
 use mathlib.Core.List.{[], _∷_}
@@ -8,8 +8,8 @@ use Rattle.flow.specs.Records.{kinds}
 use Rattle.flow.specs.Refusals.{sameDescriptors}
 use Rattle.tracker.specs.Rows.{sameAt}
 use Rattle.tracker.proofs.Arms.{kind-arm, kind-rest}
-use Rattle.tracker.proofs.rows.is_same.Statement.{statement}
-use Rattle.tracker.proofs.rows.is_same.Tie as tie
+use Rattle.tracker.proofs.rows.same.holds.Statement.{statement}
+use Rattle.tracker.proofs.rows.same.holds.Tie as tie
 
 abbrev row : tie.Start → Option Kind → Bool
 row c = sameAt (c .args .q)
@@ -26,5 +26,5 @@ returns-2 c =
     let c1 = c .before in
     kind-rest (row (c1)) ((4 ∷ []) ∷ []) refl _ (c .match .rest)
 
-pub is-same-spec : {M : Type 1} → statement M
-is-same-spec = tie.close (tie.spec returns returns-2)
+pub holds-spec : {M : Type 1} → statement M
+holds-spec = tie.close (tie.spec returns returns-2)

@@ -1,8 +1,7 @@
--- `is_no_file` is the row of test 10.
+-- `no_file::holds` is the row of test 10.
 use mathlib.Core.Path.{refl}
 use mathlib.Core.Bool.{Bool}
-use mathlib.Core.List.{List, [], _∷_}
-use Prim.Native.Nat.{ℕ}
+use mathlib.Core.List.{[], _∷_}
 use mathlib.Core.Option.{Option}
 use Rattle.flow.specs.Box.{descriptor, isDevice}
 use Rattle.flow.specs.Calls.{Kind, kindNumber, isKind}
@@ -12,24 +11,24 @@ use Rattle.store.specs.Maps.{view}
 use Rattle.tracker.specs.Rows.{noFileAt}
 use Rattle.tracker.proofs.Arms.{kind-arm, kind-rest}
 use borrow.Author.Needs.{needs}
-use Rattle.tracker.proofs.rows.is_no_file.Statement.{statement}
-use Rattle.tracker.proofs.rows.is_no_file.Tie as tie
+use Rattle.tracker.proofs.rows.no_file.holds.Statement.{statement}
+use Rattle.tracker.proofs.rows.no_file.holds.Tie as tie
 
-abbrev row : tie.Start → List ℕ → List ℕ → Option Kind → Bool
-row c w n = noFileAt (view w (c .args .descriptors .now) n .tables) (c .args .q)
+abbrev row : tie.Start → Option Kind → Bool
+row c = noFileAt (view (c .args .words .now) (c .args .descriptors .now) (c .args .names .now) .tables) (c .args .q)
 
 returns : tie.Need-returns
 unfolding view noFileAt noFile kinds isKind kindNumber descriptor isDevice
 returns c =
     let c1 = c .before in
     let c2 = c1 .before in
-    λ w n. rw (c .descriptor .ensures) (kind-arm (row (c2) w n) (10 ∷ []) _ refl _ (c1 .match .keys1))
+    rw (c .descriptor .ensures) (kind-arm (row (c2)) (10 ∷ []) _ refl _ (c1 .match .keys1))
 
 returns-2 : tie.Need-returns-2
 unfolding view noFileAt noFile kinds isKind kindNumber descriptor isDevice
 returns-2 c =
     let c1 = c .before in
-    λ w n. kind-rest (row (c1) w n) ((10 ∷ []) ∷ []) refl _ (c .match .rest)
+    kind-rest (row (c1)) ((10 ∷ []) ∷ []) refl _ (c .match .rest)
 
-pub is-no-file-spec : {M : Type 1} → statement M
-is-no-file-spec = tie.close (tie.spec (λ c κs. search needs) returns returns-2)
+pub holds-spec : {M : Type 1} → statement M
+holds-spec = tie.close (tie.spec (λ c κs. search needs) returns returns-2)

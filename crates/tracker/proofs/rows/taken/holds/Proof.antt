@@ -1,4 +1,4 @@
--- `is_taken` is the row of test 7.
+-- `taken::holds` is the row of test 7.
 use mathlib.Core.Path.{refl}
 use mathlib.Core.Bool.{Bool}
 use mathlib.Core.List.{[], _∷_}
@@ -11,8 +11,8 @@ use Rattle.store.specs.Maps.{view}
 use Rattle.tracker.specs.Rows.{takenAt}
 use Rattle.tracker.proofs.Arms.{kind-arm, kind-rest}
 use borrow.Author.Needs.{needs}
-use Rattle.tracker.proofs.rows.is_taken.Statement.{statement}
-use Rattle.tracker.proofs.rows.is_taken.Tie as tie
+use Rattle.tracker.proofs.rows.taken.holds.Statement.{statement}
+use Rattle.tracker.proofs.rows.taken.holds.Tie as tie
 
 abbrev row : tie.Start → Option Kind → Bool
 row c = takenAt (view (c .args .words .now) (c .args .descriptors .now) (c .args .names .now) .tables) (c .args .q)
@@ -76,8 +76,8 @@ returns-8 c =
     let c1 = c .before in
     kind-rest (row (c1)) ((17 ∷ []) ∷ (16 ∷ []) ∷ (5 ∷ []) ∷ (4 ∷ []) ∷ (3 ∷ []) ∷ (2 ∷ 6 ∷ []) ∷ (1 ∷ []) ∷ []) refl _ (c .match .rest)
 
-pub is-taken-spec : {M : Type 1} → statement M
-is-taken-spec =
+pub holds-spec : {M : Type 1} → statement M
+holds-spec =
     tie.close
     (tie.spec
     (λ c κs. search needs)

@@ -1,4 +1,4 @@
--- `is_missing` is the row of test 8.
+-- `missing::holds` is the row of test 8.
 use native.Mathlib.Omega.{arith}
 use mathlib.Core.Path.{refl}
 use mathlib.Core.Logic.{⊎-elim}
@@ -13,8 +13,8 @@ use Rattle.store.specs.Maps.{view}
 use Rattle.tracker.specs.Rows.{missingAt}
 use Rattle.tracker.proofs.Arms.{kind-arm, kind-between, kind-from}
 use borrow.Author.Needs.{needs}
-use Rattle.tracker.proofs.rows.is_missing.Statement.{statement}
-use Rattle.tracker.proofs.rows.is_missing.Tie as tie
+use Rattle.tracker.proofs.rows.missing.holds.Statement.{statement}
+use Rattle.tracker.proofs.rows.missing.holds.Tie as tie
 
 abbrev row : tie.Start → Option Kind → Bool
 row c = missingAt (view (c .args .words .now) (c .args .descriptors .now) (c .args .names .now) .tables) (c .args .q)
@@ -69,8 +69,8 @@ returns-6 c =
     (λ w. kind-between (row (c2)) ((19 ∷ []) ∷ (13 ∷ []) ∷ (2 ∷ []) ∷ []) 13 17 _ refl _ (w .0 .rest) (w .2 .left) (w .3 .taken) (omega arith))
     (c1 .match .came))
 
-pub is-missing-spec : {M : Type 1} → statement M
-is-missing-spec =
+pub holds-spec : {M : Type 1} → statement M
+holds-spec =
     tie.close
     (tie.spec
     (λ c κs. search needs)
