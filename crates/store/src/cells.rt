@@ -85,20 +85,6 @@ pub fn make_items(words: &mut [u64; 97], plan: Plan)
     make_part(words, plan);
 }
 
-fn empty_part(words: &mut [u64], r: u64)
-    requires { ⌜ length (now words) ≡ 97 ⌝ }
-    ensures { λ _. ⌜ ((d n : List ℕ) → let m = view (now (words .entry)) d n in view (now (words .exit)) d n ≡ withItems m (cleared (m .items) r)) ⌝ }
-{
-    empty(&mut words[ITEMS_AT..FEEDERS_AT], r);
-}
-
-// Empties every container of the set r.
-pub fn empty_items(words: &mut [u64; 97], r: u64)
-    ensures { λ _. ⌜ ((d n : List ℕ) → let m = view (now (words .entry)) d n in view (now (words .exit)) d n ≡ withItems m (cleared (m .items) r)) ⌝ }
-{
-    empty_part(words, r);
-}
-
 fn empty_one_part(words: &mut [u64], c: u8)
     requires { ⌜ length (now words) ≡ 97 ⌝ }
     ensures { λ _. ⌜ ((d n : List ℕ) → let m = view (now (words .entry)) d n in view (now (words .exit)) d n ≡ withItems m (cleared (m .items) (only (c % 64)))) ⌝ }
