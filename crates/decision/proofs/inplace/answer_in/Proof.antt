@@ -10,12 +10,6 @@ use borrow.Author.Needs.{needs}
 use Rattle.decision.proofs.inplace.answer_in.Statement.{statement}
 use Rattle.decision.proofs.inplace.answer_in.Tie as tie
 
-returns : tie.Need-returns
-unfolding readingOf testsOf firstThat
-returns c =
-    let c3 = c .before .before .before in
-    by-reading _ _ (Unreadable _) _ (ap readingOf (sym (c .before .«record» .given .1)) ∙ c3 .read .ensures) (refused-as _ _ _ refl)
-
 returns-2 : tie.Need-returns-2
 unfolding readingOf conditionOf
 returns-2 c =
@@ -48,4 +42,11 @@ returns-5 c =
     by-reading _ _ (Confine _ _ _ _) _ (ap readingOf (sym (r .record5 .given .1)) ∙ r .before .before .read .ensures) (rw (q .rule3 .ensures) at (c .load-in3 .ensures (a .descriptors .now) (a .names .now)))
 
 pub answer-in-spec : {M : Type 1} → statement M
-answer-in-spec = tie.close (tie.spec (λ c κs. search needs) (λ c. search needs) (λ c. search needs) (λ c κs. search needs) (λ c κs. search needs) (λ c. search needs) (λ c κs. search needs) (λ c κs. search needs) (λ c. search needs) (λ c. search needs) (λ c κs. search needs) (λ c κs. search needs) (λ c. search needs) (λ c κs. search needs) (λ c κs. search needs) returns returns-2 returns-3 returns-4 returns-5)
+unfolding readingOf testsOf firstThat
+answer-in-spec =
+    tie.close
+    (tie.spec (λ c κs. search needs) (λ c. search needs) (λ c. search needs) (λ c κs. search needs) (λ c κs. search needs) (λ c. search needs) (λ c κs. search needs)
+    (λ c κs. search needs) (λ c. search needs) (λ c. search needs) (λ c κs. search needs) (λ c κs. search needs) (λ c. search needs) (λ c κs. search needs)
+    (λ c κs. search needs)
+    (λ c. let c3 = c .before .before .before in by-reading _ _ (Unreadable _) _ (ap readingOf (sym (c .before .«record» .given .1)) ∙ c3 .read .ensures) (refused-as _ _ _ refl))
+    returns-2 returns-3 returns-4 returns-5)

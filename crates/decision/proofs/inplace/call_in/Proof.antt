@@ -18,12 +18,6 @@ named c = search needs
 abbrev met : tie.Start → Monitor
 met s = monitor (s .args .words .now) (s .args .descriptors .now) (s .args .names .now) (s .args .sets .now) (s .args .fields .now)
 
-returns : tie.Need-returns
-returns c = refused-call _ _ _ (c .before .refusal .ensures) (c .if1 .taken)
-
-give-in-requires : tie.Need-give-in-requires
-give-in-requires c κs = let c3 = c .before .before .before in passes _ _ _ _ _ (c3 .before .refusal .ensures) (c3 .if1 .left)
-
 stop-in-requires : tie.Need-stop-in-requires
 stop-in-requires c κs =
     let c3 = c .before .before .before in
@@ -61,4 +55,9 @@ returns-3 c =
     allowed-call (met s) (s .args .q) (long z) (named z) _ (r .refusal .ensures) (g .before .before .before .before .if1 .left) _ _ (g .give-in .ensures) (c4 .if2 .left) _ _ _ (c .finish .ensures)
 
 pub call-in-spec : {M : Type 1} → statement M
-call-in-spec = tie.close (tie.spec (λ c κs. search needs) (λ c κs. search needs) returns give-in-requires stop-in-requires returns-2 finish-requires returns-3)
+call-in-spec =
+    tie.close
+    (tie.spec (λ c κs. search needs) (λ c κs. search needs)
+    (λ c. refused-call _ _ _ (c .before .refusal .ensures) (c .if1 .taken))
+    (λ c κs. let c3 = c .before .before .before in passes _ _ _ _ _ (c3 .before .refusal .ensures) (c3 .if1 .left))
+    stop-in-requires returns-2 finish-requires returns-3)

@@ -16,12 +16,6 @@ long c = search needs
 abbrev met : tie.Start → Monitor
 met s = monitor (s .args .words .now) (s .args .descriptors .now) (s .args .names .now) (s .args .sets .now) (s .args .fields .now)
 
-returns : tie.Need-returns
-returns c = let c2 = c .before .before in gives-nothing (met (c2 .before .before .before .before)) _ (long c2) (sym (c .before .gives .ensures) ∙ not-true _ (c .if1 .taken))
-
-plan-of-requires : tie.Need-plan-of-requires
-plan-of-requires c κs = c .before .before .before .before .before .before .before .pre
-
 returns-2 : tie.Need-returns-2
 returns-2 c =
     let c2 = c .before .before in
@@ -37,4 +31,9 @@ returns-3 c =
     gives-made (met s) _ _ (c6 .plan-of .ensures) _ (c4 .judge .ensures) (c2 .if2 .left ∙ c2 .before .count .ensures) _ (c .make-items .ensures (s .args .descriptors .now) (s .args .names .now))
 
 pub give-in-spec : {M : Type 1} → statement M
-give-in-spec = tie.close (tie.spec (λ c κs. search needs) (λ c κs. search needs) returns plan-of-requires (λ c κs. search needs) (λ c κs. search needs) returns-2 (λ c κs. search needs) returns-3)
+give-in-spec =
+    tie.close
+    (tie.spec (λ c κs. search needs) (λ c κs. search needs)
+    (λ c. let c2 = c .before .before in gives-nothing (met (c2 .before .before .before .before)) _ (long c2) (sym (c .before .gives .ensures) ∙ not-true _ (c .if1 .taken)))
+    (λ c κs. c .before .before .before .before .before .before .before .pre)
+    (λ c κs. search needs) (λ c κs. search needs) returns-2 (λ c κs. search needs) returns-3)

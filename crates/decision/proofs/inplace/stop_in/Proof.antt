@@ -12,22 +12,12 @@ use Rattle.decision.proofs.inplace.stop_in.Tie as tie
 long : (c : tie.After-lengths) → length (c .before .before .before .before .args .words .now) ≡ 97
 long c = search needs
 
-action-requires : tie.Need-action-requires
-action-requires c κs =
-    let c4 = c .before .before .before .before in
-    c4 .pre .0
-
 returns : tie.Need-returns
 returns c =
     let c2 = c .before .before in
     let c7 = c2 .before .before .before .before .before in
     let a = c7 .args in
     λ x e. stop-no-write (monitor (a .words .now) (a .descriptors .now) (a .names .now) (a .sets .now) (a .fields .now)) (a .q) x e (a .k) _ (c2 .action .ensures) (c .if1 .taken)
-
-substitute-requires : tie.Need-substitute-requires
-substitute-requires c κs =
-    let c7 = c .before .before .before .before .before .before .before in
-    c7 .pre .0
 
 returns-2 : tie.Need-returns-2
 returns-2 c =
@@ -81,19 +71,9 @@ returns-4 c =
 pub stop-in-spec : {M : Type 1} → statement M
 stop-in-spec =
     tie.close
-    (tie.spec
-    (λ c κs. search needs)
-    action-requires
+    (tie.spec (λ c κs. search needs)
+    (λ c κs. let c4 = c .before .before .before .before in c4 .pre .0)
     returns
-    substitute-requires
-    (λ c κs. search needs)
-    returns-2
-    add-own
-    (λ c κs. search needs)
-    (λ c κs. search needs)
-    (λ c κs. search needs)
-    (λ c κs. search needs)
-    (λ c κs. search needs)
-    returns-3
-    (λ c κs. search needs)
-    returns-4)
+    (λ c κs. let c7 = c .before .before .before .before .before .before .before in c7 .pre .0)
+    (λ c κs. search needs) returns-2 add-own (λ c κs. search needs) (λ c κs. search needs) (λ c κs. search needs) (λ c κs. search needs) (λ c κs. search needs)
+    returns-3 (λ c κs. search needs) returns-4)

@@ -4,11 +4,9 @@ use borrow.Author.Needs.{needs}
 use Rattle.rules.proofs.judging.both.Statement.{statement}
 use Rattle.rules.proofs.judging.both.Tie as tie
 
-returns : tie.Need-returns
-returns c = rw (sym (c .before .before .has .ensures) ∙ c .before .if1 .taken) (c .has2 .ensures)
-
-returns-2 : tie.Need-returns-2
-returns-2 c = rw (sym (c .before .has .ensures) ∙ c .if1 .left)
-
 pub both-spec : {M : Type 1} → statement M
-both-spec = tie.close (tie.spec (λ c κs. search needs) (λ c κs. search needs) returns returns-2)
+both-spec =
+    tie.close
+    (tie.spec (λ c κs. search needs) (λ c κs. search needs)
+    (λ c. rw (sym (c .before .before .has .ensures) ∙ c .before .if1 .taken) (c .has2 .ensures))
+    (λ c. rw (sym (c .before .has .ensures) ∙ c .if1 .left)))

@@ -20,10 +20,6 @@ gained-lt c =
     let y : Fits w64 (c .args .plan .given2) = search needs in
     union-lt _ _ (x .fits) (y .fits)
 
-returns : tie.Need-returns
-unfolding _∪_
-returns c = λ l m n. sym (far _ l _ _ _ (gained-lt (c .before .before .before)) (sym (c .before .touches .ensures) ∙ not-true _ (c .if1 .taken)))
-
 returns-2 : tie.Need-returns-2
 returns-2 c = λ l m n.
     let b = c .before .before .before .before .before in
@@ -31,8 +27,11 @@ returns-2 c = λ l m n.
     let y : Fits w64 (b .args .plan .to2) = search needs in
     c .joins .ensures ∙ joined l _ (x .fits) (y .fits) _ _ m n _ _ ∙ sym (ap (breaksAnew l _) (separates-by _ _ _ (c .before .if2 .taken)))
 
-returns-3 : tie.Need-returns-3
-returns-3 c = λ l m n. c .breaks-set .ensures l (c .before .if2 .left)
-
 pub breaks-anew-spec : {M : Type 1} → statement M
-breaks-anew-spec = tie.close (tie.spec (λ c κs. search needs) returns (λ c κs. search needs) returns-2 (λ c κs. search needs) returns-3)
+unfolding _∪_
+breaks-anew-spec =
+    tie.close
+    (tie.spec (λ c κs. search needs)
+    (λ c. λ l m n. sym (far _ l _ _ _ (gained-lt (c .before .before .before)) (sym (c .before .touches .ensures) ∙ not-true _ (c .if1 .taken))))
+    (λ c κs. search needs) returns-2 (λ c κs. search needs)
+    (λ c. λ l m n. c .breaks-set .ensures l (c .before .if2 .left)))

@@ -6,13 +6,10 @@ use Rattle.rules.proofs.AnewLaws.{forbid-anew, confine-anew}
 use Rattle.rules.proofs.judging.breaks_set.Statement.{statement}
 use Rattle.rules.proofs.judging.breaks_set.Tie as tie
 
-returns : tie.Need-returns
-unfolding meets _∩_
-returns c = λ l n. forbid-anew l _ _ _ _ _ (c .before .gets .ensures) (c .if1 .taken)
-
-returns-2 : tie.Need-returns-2
-unfolding _∩_
-returns-2 c = λ l n. confine-anew l _ _ _ _ _ (c .before .gets .ensures) n (c .if1 .left)
-
 pub breaks-set-spec : {M : Type 1} → statement M
-breaks-set-spec = tie.close (tie.spec (λ c κs. search needs) returns returns-2)
+unfolding meets _∩_
+breaks-set-spec =
+    tie.close
+    (tie.spec (λ c κs. search needs)
+    (λ c. λ l n. forbid-anew l _ _ _ _ _ (c .before .gets .ensures) (c .if1 .taken))
+    (λ c. λ l n. confine-anew l _ _ _ _ _ (c .before .gets .ensures) n (c .if1 .left)))

@@ -6,12 +6,10 @@ use borrow.Author.Needs.{needs}
 use Rattle.rules.proofs.judging.has.Statement.{statement}
 use Rattle.rules.proofs.judging.has.Tie as tie
 
-returns : tie.Need-returns
-returns c = sym (past-has _ _ (c .before .fits .x .fits) (c .if1 .taken))
-
-returns-2 : tie.Need-returns-2
-unfolding has
-returns-2 c = refl
-
 pub has-spec : {M : Type 1} → statement M
-has-spec = tie.close (tie.spec returns (λ c. search needs) returns-2)
+unfolding has
+has-spec =
+    tie.close
+    (tie.spec (λ c. sym (past-has _ _ (c .before .fits .x .fits) (c .if1 .taken)))
+    (λ c. search needs)
+    (λ c. refl))

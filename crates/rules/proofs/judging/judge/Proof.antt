@@ -38,21 +38,10 @@ gained-lt c =
     let y : Fits w64 (c .args .plan .given2) = search needs in
     union-lt _ _ (x .fits) (y .fits)
 
-returns : tie.Need-returns Inv-loop μ-loop
-unfolding _∪_
-returns c =
-    let c2 = c .before .before in
-    answer (c2 .before) _ (c2 .count .ensures ∙ nothing-given _ (c .if1 .taken) _ _ _)
-
 loop-holds : tie.Need-loop-holds Inv-loop μ-loop
 loop-holds c =
     let e = c .before .before .count .ensures in
     (rw e (count-le _), e, refl)
-
-returns-2 : tie.Need-returns-2 Inv-loop μ-loop
-returns-2 c =
-    let c8 = c .before .before .before .before .before .before .before .before in
-    answer (c8 .before .before .before .before) _ (c .judge-from .ensures ∙ sym (c8 .loop .inv .2))
 
 returns-3 : tie.Need-returns-3 Inv-loop μ-loop
 unfolding conditionAt
@@ -71,36 +60,14 @@ loop-again c =
     (λ w. far _ _ _ _ _ (gained-lt (c6 .before .before .before .before)) (sym (c1 .touches .ensures) ∙ w .left)) (c .if2 .came) in
     (c6 .loop .inv .0, c6 .loop .inv .1, seek-miss _ _ _ _ (c6 .loop .inv .2) (omega arith) whole)
 
-returns-4 : tie.Need-returns-4 Inv-loop μ-loop
-returns-4 c =
-    let c1 = c .before in
-    answer (c1 .before .before .before .before) _ (seek-end _ _ _ _ (c1 .loop .inv .2) (omega arith))
-
 pub judge-spec : {M : Type 1} → statement M
+unfolding _∪_
 judge-spec =
     tie.close
-    (tie.spec
-    Inv-loop
-    μ-loop
-    (λ c κs. search needs)
-    returns
-    loop-holds
-    (λ c. search needs)
-    (λ c. search needs)
-    (λ c. search needs)
-    (λ c. search needs)
-    (λ c. search needs)
-    (λ c. search needs)
-    (λ c. search needs)
-    (λ c. search needs)
-    (λ c κs. search needs)
-    (λ c κs. search needs)
-    returns-2
-    (λ c. search needs)
-    (λ c. search needs)
-    (λ c κs. search needs)
-    returns-3
-    (λ c. search needs)
-    (λ c. search needs)
-    loop-again
-    returns-4)
+    (tie.spec Inv-loop μ-loop (λ c κs. search needs)
+    (λ c. let c2 = c .before .before in answer (c2 .before) _ (c2 .count .ensures ∙ nothing-given _ (c .if1 .taken) _ _ _))
+    loop-holds (λ c. search needs) (λ c. search needs) (λ c. search needs) (λ c. search needs) (λ c. search needs) (λ c. search needs) (λ c. search needs)
+    (λ c. search needs) (λ c κs. search needs) (λ c κs. search needs)
+    (λ c. let c8 = c .before .before .before .before .before .before .before .before in answer (c8 .before .before .before .before) _ (c .judge-from .ensures ∙ sym (c8 .loop .inv .2)))
+    (λ c. search needs) (λ c. search needs) (λ c κs. search needs) returns-3 (λ c. search needs) (λ c. search needs) loop-again
+    (λ c. let c1 = c .before in answer (c1 .before .before .before .before) _ (seek-end _ _ _ _ (c1 .loop .inv .2) (omega arith))))

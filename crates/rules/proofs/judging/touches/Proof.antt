@@ -9,20 +9,11 @@ use Rattle.rules.proofs.ConditionLaws.{touches-is}
 use Rattle.rules.proofs.judging.touches.Statement.{statement}
 use Rattle.rules.proofs.judging.touches.Tie as tie
 
-returns : tie.Need-returns
-returns c = rw (touches-is, sym (c .before .member .ensures), c .if1 .taken)
-
-returns-2 : tie.Need-returns-2
-returns-2 c =
-    let b = c .before .before in
-    rw (touches-is, sym (b .before .member .ensures), b .if1 .left, eq-eqb _ 0x12 (c .before .if2 .taken)) (c .member2 .ensures ∙ ap (has _) (mod-eq-of-lt (omega arith)))
-
-returns-3 : tie.Need-returns-3
-returns-3 c =
-    let b = c .before in
-    rw (touches-is, sym (b .before .member .ensures), b .if1 .left, ne-eqb _ 0x12 (c .if2 .left))
-
 pub touches-spec : {M : Type 1} → statement M
 touches-spec =
     tie.close
-    (tie.spec (λ c κs. search needs) returns (λ c. search needs) (λ c κs. search needs) returns-2 returns-3)
+    (tie.spec (λ c κs. search needs)
+    (λ c. rw (touches-is, sym (c .before .member .ensures), c .if1 .taken))
+    (λ c. search needs) (λ c κs. search needs)
+    (λ c. let b = c .before .before in rw (touches-is, sym (b .before .member .ensures), b .if1 .left, eq-eqb _ 0x12 (c .before .if2 .taken)) (c .member2 .ensures ∙ ap (has _) (mod-eq-of-lt (omega arith))))
+    (λ c. let b = c .before in rw (touches-is, sym (b .before .member .ensures), b .if1 .left, ne-eqb _ 0x12 (c .if2 .left))))

@@ -23,14 +23,6 @@ abbrev μ-loop : tie.MeasureT-loop
 loop-holds : tie.Need-loop-holds Inv-loop μ-loop
 loop-holds c = (search needs, below-none _)
 
-returns : tie.Need-returns Inv-loop μ-loop
-unfolding brokenIn
-returns c =
-    let c1 = c .before in
-    let c2 = c1 .before in
-    let c3 = c2 .before in
-    sym (some-of 64 _ _ (c3 .loop-test .taken) (rw (c2 .items .ensures) at (sym (c1 .breaks-with .ensures) ∙ c .if1 .taken)))
-
 loop-again : tie.Need-loop-again Inv-loop μ-loop
 loop-again c =
     let c1 = c .before in
@@ -38,21 +30,11 @@ loop-again c =
     let c4 = c2 .before .before in
     (search needs, below-more _ _ (c4 .loop .inv .1) (rw (c2 .items .ensures) at (sym (c1 .breaks-with .ensures) ∙ c .if1 .left)))
 
-returns-2 : tie.Need-returns-2 Inv-loop μ-loop
-unfolding brokenIn
-returns-2 c = sym (none-below 64 _ (λ v l. c .before .loop .inv .1 v (omega arith)))
-
 pub breaks-now-spec : {M : Type 1} → statement M
+unfolding brokenIn
 breaks-now-spec =
     tie.close
-    (tie.spec
-    Inv-loop
-    μ-loop
-    loop-holds
-    (λ c κs. search needs)
-    (λ c κs. search needs)
-    returns
-    (λ c. search needs)
-    (λ c. search needs)
-    loop-again
-    returns-2)
+    (tie.spec Inv-loop μ-loop loop-holds (λ c κs. search needs) (λ c κs. search needs)
+    (λ c. let c1 = c .before in let c2 = c1 .before in let c3 = c2 .before in sym (some-of 64 _ _ (c3 .loop-test .taken) (rw (c2 .items .ensures) at (sym (c1 .breaks-with .ensures) ∙ c .if1 .taken))))
+    (λ c. search needs) (λ c. search needs) loop-again
+    (λ c. sym (none-below 64 _ (λ v l. c .before .loop .inv .1 v (omega arith)))))

@@ -6,12 +6,10 @@ use Rattle.rules.proofs.ConditionLaws.{separates-by, items-fit-by-set}
 use Rattle.rules.proofs.loading.items_fit.Statement.{statement}
 use Rattle.rules.proofs.loading.items_fit.Tie as tie
 
-returns : tie.Need-returns
-unfolding itemsFit
-returns c = sym (ap itemsFit (separates-by _ _ _ (c .before .before .if1 .taken)))
-
-returns-2 : tie.Need-returns-2
-returns-2 c = items-fit-by-set _ _ _ (c .before .if1 .left)
-
 pub items-fit-spec : {M : Type 1} → statement M
-items-fit-spec = tie.close (tie.spec (λ c. search needs) returns returns-2)
+unfolding itemsFit
+items-fit-spec =
+    tie.close
+    (tie.spec (λ c. search needs)
+    (λ c. sym (ap itemsFit (separates-by _ _ _ (c .before .before .if1 .taken))))
+    (λ c. items-fit-by-set _ _ _ (c .before .if1 .left)))

@@ -6,12 +6,10 @@ use borrow.Author.Needs.{needs}
 use Rattle.rules.proofs.loading.same_items.Statement.{statement}
 use Rattle.rules.proofs.loading.same_items.Tie as tie
 
-returns : tie.Need-returns
-unfolding sameItems
-returns c = sym (ap sameItems (separates-by _ _ _ (c .before .before .if1 .taken)))
-
-returns-2 : tie.Need-returns-2
-returns-2 c = same-items-by-set _ _ _ (c .if1 .left)
-
 pub same-items-spec : {M : Type 1} → statement M
-same-items-spec = tie.close (tie.spec (λ c. search needs) returns returns-2)
+unfolding sameItems
+same-items-spec =
+    tie.close
+    (tie.spec (λ c. search needs)
+    (λ c. sym (ap sameItems (separates-by _ _ _ (c .before .before .if1 .taken))))
+    (λ c. same-items-by-set _ _ _ (c .if1 .left)))

@@ -7,13 +7,9 @@ use Rattle.flow.proofs.Bools.{chosen-l, chosen-r}
 use Rattle.rules.proofs.loading.substitute_fits.Statement.{statement}
 use Rattle.rules.proofs.loading.substitute_fits.Tie as tie
 
-returns : tie.Need-returns
-unfolding substituteFits
-returns c = sym (chosen-l _ _ _ (eq-eqb _ 0 (c .before .if1 .taken)))
-
-returns-2 : tie.Need-returns-2
-unfolding substituteFits isTarget isDevice isFile
-returns-2 c = sym (chosen-r _ _ _ (ne-eqb _ 0 (c .before .before .before .if1 .left)))
-
 pub substitute-fits-spec : {M : Type 1} → statement M
-substitute-fits-spec = tie.close (tie.spec returns returns-2)
+unfolding substituteFits isTarget isDevice isFile
+substitute-fits-spec =
+    tie.close
+    (tie.spec (λ c. sym (chosen-l _ _ _ (eq-eqb _ 0 (c .before .if1 .taken))))
+    (λ c. sym (chosen-r _ _ _ (ne-eqb _ 0 (c .before .before .before .if1 .left)))))

@@ -7,16 +7,6 @@ use borrow.Author.Needs.{needs}
 use Rattle.rules.proofs.loading.unfit.Statement.{statement}
 use Rattle.rules.proofs.loading.unfit.Tie as tie
 
-returns : tie.Need-returns
-unfolding refusalFrom firstThat fieldTests
-returns c = rw (le-ltb _ 2 (c .if1 .taken))
-
-returns-2 : tie.Need-returns-2
-unfolding refusalFrom firstThat fieldTests
-returns-2 c =
-    let b = c .before .before .before in
-    rw (lt-ltb _ 2 (b .if1 .left), sym (c .before .before .items-fit .ensures), sym (c .before .substitute-fits .ensures), c .if2 .taken)
-
 returns-3 : tie.Need-returns-3
 unfolding refusalFrom firstThat fieldTests
 returns-3 c =
@@ -30,13 +20,10 @@ returns-4 c =
     rw (lt-ltb _ 2 (b .before .before .if1 .left), sym (b .before .items-fit .ensures), sym (b .substitute-fits .ensures), c .before .before .if2 .left, sym (c .before .same-items .ensures), c .if3 .left)
 
 pub unfit-spec : {M : Type 1} → statement M
+unfolding refusalFrom firstThat fieldTests
 unfit-spec =
     tie.close
-    (tie.spec
-    returns
-    (λ c κs. search needs)
-    (λ c κs. search needs)
-    returns-2
-    (λ c κs. search needs)
-    returns-3
-    returns-4)
+    (tie.spec (λ c. rw (le-ltb _ 2 (c .if1 .taken)))
+    (λ c κs. search needs) (λ c κs. search needs)
+    (λ c. let b = c .before .before .before in rw (lt-ltb _ 2 (b .if1 .left), sym (c .before .before .items-fit .ensures), sym (c .before .substitute-fits .ensures), c .if2 .taken))
+    (λ c κs. search needs) returns-3 returns-4)

@@ -5,9 +5,9 @@ use borrow.Author.Needs.{needs}
 use Rattle.rules.proofs.stored.action.Statement.{statement}
 use Rattle.rules.proofs.stored.action.Tie as tie
 
-returns : tie.Need-returns
-unfolding actionAt
-returns c = refl
-
 pub action-spec : {M : Type 1} → statement M
-action-spec = tie.close (tie.spec (λ c. search needs) (λ c. search needs) (λ c. search needs) returns)
+unfolding actionAt
+action-spec =
+    tie.close
+    (tie.spec (λ c. search needs) (λ c. search needs) (λ c. search needs)
+    (λ c. refl))

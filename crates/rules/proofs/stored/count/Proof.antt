@@ -5,11 +5,9 @@ use borrow.Author.Needs.{needs}
 use Rattle.rules.proofs.stored.count.Statement.{statement}
 use Rattle.rules.proofs.stored.count.Tie as tie
 
-returns : tie.Need-returns
-returns c = sym (count-all _ (c .if1 .taken))
-
-returns-2 : tie.Need-returns-2
-returns-2 c = sym (count-full _ (c .if1 .left))
-
 pub count-spec : {M : Type 1} → statement M
-count-spec = tie.close (tie.spec (λ c. search needs) returns returns-2)
+count-spec =
+    tie.close
+    (tie.spec (λ c. search needs)
+    (λ c. sym (count-all _ (c .if1 .taken)))
+    (λ c. sym (count-full _ (c .if1 .left))))

@@ -5,27 +5,10 @@ use borrow.Author.Needs.{needs}
 use Rattle.rules.proofs.stored.store.Statement.{statement}
 use Rattle.rules.proofs.stored.store.Tie as tie
 
-returns : tie.Need-returns
-returns c = rule-stored _ _ _ (search needs) (search needs) _ (c .count .ensures) (omega arith) (search needs)
-
 pub store-spec : {M : Type 1} → statement M
 store-spec =
     tie.close
-    (tie.spec
-    (λ c κs. search needs)
-    (λ c κs. search needs)
+    (tie.spec (λ c κs. search needs) (λ c κs. search needs) (λ c. search needs) (λ c. search needs) (λ c. search needs) (λ c. search needs) (λ c. search needs)
+    (λ c. search needs) (λ c. search needs) (λ c. search needs) (λ c. search needs) (λ c. search needs) (λ c. search needs) (λ c. search needs) (λ c. search needs)
     (λ c. search needs)
-    (λ c. search needs)
-    (λ c. search needs)
-    (λ c. search needs)
-    (λ c. search needs)
-    (λ c. search needs)
-    (λ c. search needs)
-    (λ c. search needs)
-    (λ c. search needs)
-    (λ c. search needs)
-    (λ c. search needs)
-    (λ c. search needs)
-    (λ c. search needs)
-    (λ c. search needs)
-    returns)
+    (λ c. rule-stored _ _ _ (search needs) (search needs) _ (c .count .ensures) (omega arith) (search needs)))

@@ -5,9 +5,9 @@ use borrow.Author.Needs.{needs}
 use Rattle.rules.proofs.stored.substitute.Statement.{statement}
 use Rattle.rules.proofs.stored.substitute.Tie as tie
 
-returns : tie.Need-returns
-unfolding substituteAt
-returns c = refl
-
 pub substitute-spec : {M : Type 1} → statement M
-substitute-spec = tie.close (tie.spec (λ c. search needs) (λ c. search needs) (λ c. search needs) returns)
+unfolding substituteAt
+substitute-spec =
+    tie.close
+    (tie.spec (λ c. search needs) (λ c. search needs) (λ c. search needs)
+    (λ c. refl))

@@ -22,8 +22,8 @@ loop-holds c = (search needs, λ e. refl)
 loop-again : tie.Need-loop-again Inv-loop μ-loop
 loop-again c = (search needs, none-low _ _ _ (c .before .loop-test .taken) (c .before .before .loop .inv .1))
 
-returns : tie.Need-returns Inv-loop μ-loop
-returns c = λ e. rw (take-all _ _ (c .loop-test .left)) at (c .before .loop .inv .1 (flag-none _ e))
-
 pub any-low-spec : {M : Type 1} → statement M
-any-low-spec = tie.close (tie.spec Inv-loop μ-loop loop-holds (λ c. search needs) (λ c. search needs) (λ c. search needs) (λ c. search needs) loop-again returns)
+any-low-spec =
+    tie.close
+    (tie.spec Inv-loop μ-loop loop-holds (λ c. search needs) (λ c. search needs) (λ c. search needs) (λ c. search needs) loop-again
+    (λ c. λ e. rw (take-all _ _ (c .loop-test .left)) at (c .before .loop .inv .1 (flag-none _ e))))

@@ -8,13 +8,10 @@ use borrow.Author.Needs.{needs}
 use Rattle.store.proofs.blocks.file_set.Statement.{statement}
 use Rattle.store.proofs.blocks.file_set.Tie as tie
 
-returns : tie.Need-returns
-unfolding _∪_ isFile
-returns c = c .with .ensures ∙ ap only (mod-eq-of-lt (file-range _ (c .before .if1 .taken) .1)) ∙ sym (fileSet-file _ (c .before .if1 .taken))
-
-returns-2 : tie.Need-returns-2
-unfolding isFile
-returns-2 c = sym (fileSet-none _ (c .if1 .left))
-
 pub file-set-spec : {M : Type 1} → statement M
-file-set-spec = tie.close (tie.spec (λ c κs. search needs) returns returns-2)
+unfolding _∪_ isFile
+file-set-spec =
+    tie.close
+    (tie.spec (λ c κs. search needs)
+    (λ c. c .with .ensures ∙ ap only (mod-eq-of-lt (file-range _ (c .before .if1 .taken) .1)) ∙ sym (fileSet-file _ (c .before .if1 .taken)))
+    (λ c. sym (fileSet-none _ (c .if1 .left))))

@@ -24,19 +24,8 @@ loop-again : tie.Need-loop-again Inv-loop μ-loop
 unfolding _∪_
 loop-again c = (search needs, filesIn-next _ _ _ _ (c .before .before .loop-test .taken) (c .before .before .before .loop .inv .1) (c .file-set .ensures))
 
-returns : tie.Need-returns Inv-loop μ-loop
-returns c = c .before .loop .inv .1 ∙ ap filesIn (take-all _ _ (c .loop-test .left))
-
 pub files-each-spec : {M : Type 1} → statement M
 files-each-spec =
     tie.close
-    (tie.spec
-    Inv-loop
-    μ-loop
-    loop-holds
-    (λ c. search needs)
-    (λ c κs. search needs)
-    (λ c. search needs)
-    (λ c. search needs)
-    loop-again
-    returns)
+    (tie.spec Inv-loop μ-loop loop-holds (λ c. search needs) (λ c κs. search needs) (λ c. search needs) (λ c. search needs) loop-again
+    (λ c. c .before .loop .inv .1 ∙ ap filesIn (take-all _ _ (c .loop-test .left))))

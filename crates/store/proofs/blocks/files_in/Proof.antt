@@ -4,8 +4,8 @@ use borrow.Author.Needs.{needs}
 use Rattle.store.proofs.blocks.files_in.Statement.{statement}
 use Rattle.store.proofs.blocks.files_in.Tie as tie
 
-returns-2 : tie.Need-returns-2
-returns-2 c = sym (c .before .any-low .ensures (c .if1 .left))
-
 pub files-in-spec : {M : Type 1} → statement M
-files-in-spec = tie.close (tie.spec (λ c κs. search needs) (λ c κs. search needs) (λ c. search needs) returns-2)
+files-in-spec =
+    tie.close
+    (tie.spec (λ c κs. search needs) (λ c κs. search needs) (λ c. search needs)
+    (λ c. sym (c .before .any-low .ensures (c .if1 .left))))

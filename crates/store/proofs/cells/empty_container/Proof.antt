@@ -20,10 +20,8 @@ returns c =
 long : (c : tie.Else1) → length (c .before .before .before .args .words .now) ≡ 97
 long c = search needs
 
-returns-2 : tie.Need-returns-2
-returns-2 c =
-    let w = c .before .before .before .args .words .now in
-    λ d n. none-cleared w d n (long c) ∙ ap (λ (x : ℕ). withItems (view w d n) (cleared (view w d n .items) x)) (sym (containerSet-past _ (c .if1 .left)))
-
 pub empty-container-spec : {M : Type 1} → statement M
-empty-container-spec = tie.close (tie.spec (λ c κs. search needs) returns returns-2)
+empty-container-spec =
+    tie.close
+    (tie.spec (λ c κs. search needs) returns
+    (λ c. let w = c .before .before .before .args .words .now in λ d n. none-cleared w d n (long c) ∙ ap (λ (x : ℕ). withItems (view w d n) (cleared (view w d n .items) x)) (sym (containerSet-past _ (c .if1 .left)))))

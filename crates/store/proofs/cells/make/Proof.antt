@@ -6,9 +6,9 @@ use borrow.Author.Needs.{needs}
 use Rattle.store.proofs.cells.make.Statement.{statement}
 use Rattle.store.proofs.cells.make.Tie as tie
 
-returns : tie.Need-returns
-unfolding itemsBy
-returns c = rw (c .before .before .give2 .ensures, c .before .before .before .before .before .before .give .ensures, c .before .before .before .before .before .before .before .before .before .before .empty .ensures)
-
 pub make-spec : {M : Type 1} → statement M
-make-spec = tie.close (tie.spec (λ c κs. search needs) (λ c κs. search needs) (λ c κs. search needs) (λ c. search needs) returns)
+unfolding itemsBy
+make-spec =
+    tie.close
+    (tie.spec (λ c κs. search needs) (λ c κs. search needs) (λ c κs. search needs) (λ c. search needs)
+    (λ c. rw (c .before .before .give2 .ensures, c .before .before .before .before .before .before .give .ensures, c .before .before .before .before .before .before .before .before .before .before .empty .ensures)))

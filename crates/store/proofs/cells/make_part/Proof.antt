@@ -4,13 +4,8 @@ use borrow.Author.Needs.{needs}
 use Rattle.store.proofs.cells.make_part.Statement.{statement}
 use Rattle.store.proofs.cells.make_part.Tie as tie
 
-returns : tie.Need-returns
-returns c =
-    let c2 = c .before .before in
-    let c5 = c2 .before .before .before in
-    λ d n. items-made _ _ d n (c5 .pre) _ (c2 .make .ensures)
-
 pub make-part-spec : {M : Type 1} → statement M
 make-part-spec =
     tie.close
-    (tie.spec (λ c. search needs) (λ c. search needs) (λ c. search needs) (λ c κs. search needs) (λ c. search needs) returns)
+    (tie.spec (λ c. search needs) (λ c. search needs) (λ c. search needs) (λ c κs. search needs) (λ c. search needs)
+    (λ c. let c2 = c .before .before in let c5 = c2 .before .before .before in λ d n. items-made _ _ d n (c5 .pre) _ (c2 .make .ensures)))

@@ -5,8 +5,8 @@ use borrow.Author.Needs.{needs}
 use Rattle.store.proofs.cells.set_entry.Statement.{statement}
 use Rattle.store.proofs.cells.set_entry.Tie as tie
 
-returns-2 : tie.Need-returns-2
-returns-2 c = sym (set-out _ _ _ (c .if1 .left))
-
 pub set-entry-spec : {M : Type 1} → statement M
-set-entry-spec = tie.close (tie.spec (λ c. search needs) (λ c. search needs) (λ c. search needs) returns-2)
+set-entry-spec =
+    tie.close
+    (tie.spec (λ c. search needs) (λ c. search needs) (λ c. search needs)
+    (λ c. sym (set-out _ _ _ (c .if1 .left))))

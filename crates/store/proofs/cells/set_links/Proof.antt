@@ -5,22 +5,9 @@ use borrow.Author.Needs.{needs}
 use Rattle.store.proofs.cells.set_links.Statement.{statement}
 use Rattle.store.proofs.cells.set_links.Tie as tie
 
-returns : tie.Need-returns
-returns c = λ d n. links-set _ d n _ _ _ (omega arith)
-
-returns-2 : tie.Need-returns-2
-returns-2 c = λ d n. links-past _ d n _ _ _ (omega arith)
-
 pub set-links-spec : {M : Type 1} → statement M
 set-links-spec =
     tie.close
-    (tie.spec
-    (λ c. search needs)
-    (λ c. search needs)
-    (λ c. search needs)
-    (λ c. search needs)
-    (λ c. search needs)
-    (λ c. search needs)
-    (λ c. search needs)
-    returns
-    returns-2)
+    (tie.spec (λ c. search needs) (λ c. search needs) (λ c. search needs) (λ c. search needs) (λ c. search needs) (λ c. search needs) (λ c. search needs)
+    (λ c. λ d n. links-set _ d n _ _ _ (omega arith))
+    (λ c. λ d n. links-past _ d n _ _ _ (omega arith)))

@@ -4,8 +4,8 @@ use borrow.Author.Needs.{needs}
 use Rattle.store.proofs.cells.set_live.Statement.{statement}
 use Rattle.store.proofs.cells.set_live.Tie as tie
 
-returns : tie.Need-returns
-returns c = λ d n. live-set _ d n _ (search needs)
-
 pub set-live-spec : {M : Type 1} → statement M
-set-live-spec = tie.close (tie.spec (λ c. search needs) returns)
+set-live-spec =
+    tie.close
+    (tie.spec (λ c. search needs)
+    (λ c. λ d n. live-set _ d n _ (search needs)))

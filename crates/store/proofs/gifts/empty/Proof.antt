@@ -22,21 +22,10 @@ loop-less c = turn-fewer _ (c .before .before .before .before .before .before .b
 loop-again : tie.Need-loop-again Inv-loop μ-loop
 loop-again c = working-more _ (c .before .before .before .before .before .before .before .loop .inv) (c .before .before .before .before .before .before .loop-test .taken) _ (c .before .before .before .before .before .lowest .ensures) _ _ (c .before .before .before .empty-at .ensures) (c .without .ensures)
 
-returns : tie.Need-returns Inv-loop μ-loop
-returns c = working-end _ (c .before .loop .inv) (c .loop-test .left) ∙ cleared-mapped _ _
-
 pub empty-spec : {M : Type 1} → statement M
 empty-spec =
     tie.close
     (tie.spec
-    Inv-loop
-    μ-loop
-    (λ c. working-start _ _ _ (c .before .pre) (search needs))
-    (λ c κs. search needs)
-    cast-v
-    (λ c κs. c .before .before .before .loop .inv .long)
-    (λ c κs. search needs)
-    loop-less
-    loop-again
-    (λ c. omega (arith, c .before .loop .inv .long, c .before .before .before .pre))
-    returns)
+    Inv-loop μ-loop (λ c. working-start _ _ _ (c .before .pre) (search needs)) (λ c κs. search needs) cast-v (λ c κs. c .before .before .before .loop .inv .long)
+    (λ c κs. search needs) loop-less loop-again (λ c. omega (arith, c .before .loop .inv .long, c .before .before .before .pre))
+    (λ c. working-end _ (c .before .loop .inv) (c .loop-test .left) ∙ cleared-mapped _ _))

@@ -5,11 +5,9 @@ use borrow.Author.Needs.{needs}
 use Rattle.store.proofs.gifts.give_at.Statement.{statement}
 use Rattle.store.proofs.gifts.give_at.Tie as tie
 
-returns : tie.Need-returns
-unfolding _∪_
-returns c = refl
-
 pub give-at-spec : {M : Type 1} → statement M
+unfolding _∪_
 give-at-spec =
     tie.close
-    (tie.spec (λ c. search needs) (λ c. search needs) (λ c. search needs) (λ c. search needs) (λ c. search needs) (λ c. search needs) returns)
+    (tie.spec (λ c. search needs) (λ c. search needs) (λ c. search needs) (λ c. search needs) (λ c. search needs) (λ c. search needs)
+    (λ c. refl))

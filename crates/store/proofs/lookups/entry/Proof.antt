@@ -6,11 +6,9 @@ use borrow.Author.Needs.{needs}
 use Rattle.store.proofs.lookups.entry.Statement.{statement}
 use Rattle.store.proofs.lookups.entry.Tie as tie
 
-returns : tie.Need-returns
-returns c = getD-any (c .before .before .args .table .now) (c .before .before .args .i) 0 255 (c .before .if1 .taken)
-
-returns-2 : tie.Need-returns-2
-returns-2 c = sym (List·getD-eq-default (c .before .args .table .now) 255 (c .if1 .left))
-
 pub entry-spec : {M : Type 1} → statement M
-entry-spec = tie.close (tie.spec (λ c. search needs) returns returns-2)
+entry-spec =
+    tie.close
+    (tie.spec (λ c. search needs)
+    (λ c. getD-any (c .before .before .args .table .now) (c .before .before .args .i) 0 255 (c .before .if1 .taken))
+    (λ c. sym (List·getD-eq-default (c .before .args .table .now) 255 (c .if1 .left))))

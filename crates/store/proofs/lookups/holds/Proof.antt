@@ -7,11 +7,9 @@ use borrow.Author.Needs.{needs}
 use Rattle.store.proofs.lookups.holds.Statement.{statement}
 use Rattle.store.proofs.lookups.holds.Tie as tie
 
-returns : tie.Need-returns
-returns c = c .member .ensures ∙ ap (has _) (mod-eq-of-lt (c .before .if1 .taken))
-
-returns-2 : tie.Need-returns-2
-returns-2 c = sym (past-has _ _ (search needs) (c .if1 .left))
-
 pub holds-spec : {M : Type 1} → statement M
-holds-spec = tie.close (tie.spec (λ c κs. search needs) returns returns-2)
+holds-spec =
+    tie.close
+    (tie.spec (λ c κs. search needs)
+    (λ c. c .member .ensures ∙ ap (has _) (mod-eq-of-lt (c .before .if1 .taken)))
+    (λ c. sym (past-has _ _ (search needs) (c .if1 .left))))

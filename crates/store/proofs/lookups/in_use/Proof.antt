@@ -11,30 +11,6 @@ use borrow.Author.Needs.{needs}
 use Rattle.store.proofs.lookups.in_use.Statement.{statement}
 use Rattle.store.proofs.lookups.in_use.Tie as tie
 
-returns : tie.Need-returns
-unfolding isDevice
-returns c = sym (used-device _ _ (lt-ltb _ 8 (c .if2 .taken)))
-
-returns-2 : tie.Need-returns-2
-unfolding view
-returns-2 c =
-    let c2 = c .before .before in
-    c .is-live .ensures ∙ sym (used-number _ _ (c2 .if2 .left) (c2 .before .before .if1 .taken))
-
-returns-3 : tie.Need-returns-3
-unfolding view
-returns-3 c =
-    let c1 = c .before in
-    let c3 = c1 .before .before in
-    sym (used-held _ _ (c3 .if1 .left) ∙ rw (← c1 .stands .ensures, c .if3 .taken))
-
-returns-4 : tie.Need-returns-4
-unfolding view
-returns-4 c =
-    let c1 = c .before in
-    let c6 = c1 .before .before .before .before .before in
-    sym (used-held _ _ (c6 .if1 .left) ∙ rw (← c1 .stands2 .ensures, c .if4 .taken, or-true))
-
 returns-5 : tie.Need-returns-5
 unfolding view
 returns-5 c =
@@ -53,16 +29,14 @@ returns-5 c =
     ∙ sym (used-held t _ (c9 .if1 .left) ∙ rw (← c7 .stands .ensures, c6 .if3 .left, ← c4 .stands2 .ensures, c3 .if4 .left)))
 
 pub in-use-spec : {M : Type 1} → statement M
+unfolding isDevice view
 in-use-spec =
     tie.close
-    (tie.spec
-    returns
+    (tie.spec (λ c. sym (used-device _ _ (lt-ltb _ 8 (c .if2 .taken))))
     (λ c κs. search needs)
-    returns-2
+    (λ c. let c2 = c .before .before in c .is-live .ensures ∙ sym (used-number _ _ (c2 .if2 .left) (c2 .before .before .if1 .taken)))
     (λ c κs. search needs)
-    returns-3
+    (λ c. let c1 = c .before in let c3 = c1 .before .before in sym (used-held _ _ (c3 .if1 .left) ∙ rw (← c1 .stands .ensures, c .if3 .taken)))
     (λ c κs. search needs)
-    returns-4
-    (λ c κs. search needs)
-    (λ c κs. search needs)
-    returns-5)
+    (λ c. let c1 = c .before in let c6 = c1 .before .before .before .before .before in sym (used-held _ _ (c6 .if1 .left) ∙ rw (← c1 .stands2 .ensures, c .if4 .taken, or-true)))
+    (λ c κs. search needs) (λ c κs. search needs) returns-5)

@@ -7,9 +7,9 @@ use borrow.Author.Needs.{needs}
 use Rattle.store.proofs.lookups.is_fed.Statement.{statement}
 use Rattle.store.proofs.lookups.is_fed.Tie as tie
 
-returns : tie.Need-returns
-unfolding view
-returns c = λ d n. c .holds .ensures ∙ rw (c .before .fed-set .ensures) (fed-has (view _ d n .tables) _ (part-length 81 16 _ (search needs)))
-
 pub is-fed-spec : {M : Type 1} → statement M
-is-fed-spec = tie.close (tie.spec (λ c κs. search needs) (λ c κs. search needs) returns)
+unfolding view
+is-fed-spec =
+    tie.close
+    (tie.spec (λ c κs. search needs) (λ c κs. search needs)
+    (λ c. λ d n. c .holds .ensures ∙ rw (c .before .fed-set .ensures) (fed-has (view _ d n .tables) _ (part-length 81 16 _ (search needs)))))

@@ -5,8 +5,8 @@ use borrow.Author.Needs.{needs}
 use Rattle.store.proofs.lookups.leads.Statement.{statement}
 use Rattle.store.proofs.lookups.leads.Tie as tie
 
-returns : tie.Need-returns
-returns c = c .holds .ensures ∙ targets-has _
-
 pub leads-spec : {M : Type 1} → statement M
-leads-spec = tie.close (tie.spec (λ c κs. search needs) returns)
+leads-spec =
+    tie.close
+    (tie.spec (λ c κs. search needs)
+    (λ c. c .holds .ensures ∙ targets-has _))

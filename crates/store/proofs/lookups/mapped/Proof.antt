@@ -5,20 +5,10 @@ use borrow.Author.Needs.{needs}
 use Rattle.store.proofs.lookups.mapped.Statement.{statement}
 use Rattle.store.proofs.lookups.mapped.Tie as tie
 
-returns : tie.Need-returns
-unfolding part _∪_
-returns c = rw (c .before .before .union-of .ensures, c .union-of2 .ensures)
-
 pub mapped-spec : {M : Type 1} → statement M
+unfolding part _∪_
 mapped-spec =
     tie.close
-    (tie.spec
-    (λ c. search needs)
-    (λ c. search needs)
-    (λ c. search needs)
+    (tie.spec (λ c. search needs) (λ c. search needs) (λ c. search needs) (λ c κs. search needs) (λ c. search needs) (λ c. search needs) (λ c. search needs)
     (λ c κs. search needs)
-    (λ c. search needs)
-    (λ c. search needs)
-    (λ c. search needs)
-    (λ c κs. search needs)
-    returns)
+    (λ c. rw (c .before .before .union-of .ensures, c .union-of2 .ensures)))

@@ -10,8 +10,8 @@ use Rattle.store.proofs.lookups.name.Tie as tie
 there : (c : tie.After-shared-slice-known) → c .before .before .before .args .n .0 % 128 < length (c .before .before .before .args .names .now)
 there c = search needs
 
-returns : tie.Need-returns
-returns c = let a = c .before .before .before .args in getD-any (a .names .now) (a .n .0 % 128) 0 closed (there c)
-
 pub name-spec : {M : Type 1} → statement M
-name-spec = tie.close (tie.spec (λ c. search needs) (λ c. search needs) returns)
+name-spec =
+    tie.close
+    (tie.spec (λ c. search needs) (λ c. search needs)
+    (λ c. let a = c .before .before .before .args in getD-any (a .names .now) (a .n .0 % 128) 0 closed (there c)))

@@ -23,8 +23,8 @@ loop-holds c = (search needs, refl)
 loop-again : tie.Need-loop-again Inv-loop μ-loop
 loop-again c = (search needs, rw (c .before .before .loop .inv .1) (isIn-byte _ _ _ (c .before .loop-test .taken)))
 
-returns : tie.Need-returns Inv-loop μ-loop
-returns c = rw (c .before .loop .inv .1, take-all _ _ (c .loop-test .left)) (byte-test _)
-
 pub stands-spec : {M : Type 1} → statement M
-stands-spec = tie.close (tie.spec Inv-loop μ-loop loop-holds (λ c. search needs) (λ c. search needs) (λ c. search needs) (λ c. search needs) loop-again returns)
+stands-spec =
+    tie.close
+    (tie.spec Inv-loop μ-loop loop-holds (λ c. search needs) (λ c. search needs) (λ c. search needs) (λ c. search needs) loop-again
+    (λ c. rw (c .before .loop .inv .1, take-all _ _ (c .loop-test .left)) (byte-test _)))

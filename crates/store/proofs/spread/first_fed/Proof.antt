@@ -20,12 +20,6 @@ abbrev μ-loop : tie.MeasureT-loop
 below : (c : tie.After-lowest Inv-loop μ-loop) → c .lowest .result < 16
 below c = seek-below (c .before .before .loop .inv) (c .before .loop-test .taken) _ (c .lowest .ensures)
 
-returns : tie.Need-returns Inv-loop μ-loop
-unfolding _∩_
-returns c =
-    let b = c .before .before in
-    seek-hit (b .before .before .loop .inv) (b .before .loop-test .taken) _ (b .lowest .ensures) (meets-true _ _ (c .if1 .taken))
-
 loop-less : tie.Need-loop-less Inv-loop μ-loop
 loop-less c =
     let b = c .before .before .before in
@@ -37,23 +31,12 @@ loop-again c =
     let b = c .before .before .before in
     seek-miss (b .before .before .loop .inv) (b .before .loop-test .taken) _ (b .lowest .ensures) (meets-false _ _ (c .before .if1 .left)) _ (c .without .ensures)
 
-returns-2 : tie.Need-returns-2 Inv-loop μ-loop
-returns-2 c = seek-end (c .before .loop .inv) (c .loop-test .left)
-
 pub first-fed-spec : {M : Type 1} → statement M
+unfolding _∩_
 first-fed-spec =
     tie.close
-    (tie.spec
-    Inv-loop
-    μ-loop
-    (λ c. seek-start _ _ (c .before .pre .1))
-    (λ c κs. search needs)
-    (λ c. omega (arith, below c))
-    (λ c. omega (arith, below c))
-    (λ c. omega (arith, below c))
-    (λ c. omega (arith, below (c .before)))
-    returns
-    (λ c κs. search needs)
-    loop-less
-    loop-again
-    returns-2)
+    (tie.spec Inv-loop μ-loop (λ c. seek-start _ _ (c .before .pre .1)) (λ c κs. search needs) (λ c. omega (arith, below c)) (λ c. omega (arith, below c))
+    (λ c. omega (arith, below c)) (λ c. omega (arith, below (c .before)))
+    (λ c. let b = c .before .before in seek-hit (b .before .before .loop .inv) (b .before .loop-test .taken) _ (b .lowest .ensures) (meets-true _ _ (c .if1 .taken)))
+    (λ c κs. search needs) loop-less loop-again
+    (λ c. seek-end (c .before .loop .inv) (c .loop-test .left)))

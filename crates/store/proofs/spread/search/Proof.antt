@@ -36,15 +36,6 @@ came c = c .before .next .ensures .found (c .if1 .left)
 below : (c : tie.Else1 Inv-loop μ-loop) → c .before .next .result < 16
 below c = next-lt (c .before .before .loop .inv) _ (came c)
 
-next-requires : tie.Need-next-requires Inv-loop μ-loop
-unfolding part
-next-requires c κs = (c .before .before .before .before .before .pre .0, c .before .before .union-of .ensures, c .loop .inv .small)
-
-returns : tie.Need-returns Inv-loop μ-loop
-returns c =
-    let b = c .before .before in
-    λ d n. search-over (b .loop .inv) (b .before .before .before .before .before .pre .1) (bound b) _ (c .if1 .taken) (c .before .next .ensures) ∙ reach-view _ d n _
-
 shared-slice-read-with : tie.Need-shared-slice-read-with Inv-loop μ-loop
 shared-slice-read-with c = omega (arith, below (c .before), c .before .before .before .before .before .before .before .before .pre .0)
 
@@ -61,25 +52,12 @@ loop-again c =
     search-more (b .loop .inv) _ (came e) (bound b _) _ _ (rw (c .before .with2 .ensures, part-at 81 16 (list b) _ (below e))) (c .without .ensures)
 
 pub search-spec : {M : Type 1} → statement M
+unfolding part
 search-spec =
     tie.close
-    (tie.spec
-    Inv-loop
-    μ-loop
-    (λ c. search needs)
-    (λ c. search needs)
-    (λ c. search needs)
-    (λ c κs. search needs)
-    (λ c κs. search needs)
+    (tie.spec Inv-loop μ-loop (λ c. search needs) (λ c. search needs) (λ c. search needs) (λ c κs. search needs) (λ c κs. search needs)
     (λ c. rw (c .with .ensures) (search-start _ _ _ (c .before .before .before .before .pre .1)))
-    next-requires
-    returns
-    (λ c. omega (arith, below c))
-    (λ c. omega (arith, below c))
-    (λ c. omega (arith, below c))
-    shared-slice-read-with
-    (λ c. omega (arith, below (c .before)))
-    (λ c κs. search needs)
-    (λ c κs. search needs)
-    loop-less
-    loop-again)
+    (λ c κs. (c .before .before .before .before .before .pre .0, c .before .before .union-of .ensures, c .loop .inv .small))
+    (λ c. let b = c .before .before in λ d n. search-over (b .loop .inv) (b .before .before .before .before .before .pre .1) (bound b) _ (c .if1 .taken) (c .before .next .ensures) ∙ reach-view _ d n _)
+    (λ c. omega (arith, below c)) (λ c. omega (arith, below c)) (λ c. omega (arith, below c)) shared-slice-read-with (λ c. omega (arith, below (c .before)))
+    (λ c κs. search needs) (λ c κs. search needs) loop-less loop-again)

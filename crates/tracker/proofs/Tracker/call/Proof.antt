@@ -6,17 +6,10 @@ use Rattle.tracker.proofs.Joined.{refused-call, made-done}
 use Rattle.tracker.proofs.Tracker.call.Statement.{statement}
 use Rattle.tracker.proofs.Tracker.call.Tie as tie
 
-returns : tie.Need-returns
-unfolding refusalOf
-returns c =
-    let c1 = c .before in
-    record { works = refused-call _ _ _ _ (c .if1 .taken) (c1 .work .ensures); kept = λ n e. refl }
-
-returns-2 : tie.Need-returns-2
-unfolding refusalOf
-returns-2 c =
-    let c1 = c .before in
-    record { works = made-done _ _ _ _ (c .if1 .left) (c1 .work .ensures); kept = λ n e. cc }
-
 pub call-spec : {M : Type 1} → statement M
-call-spec = tie.close (tie.spec (λ c κs. search needs) returns returns-2)
+unfolding refusalOf
+call-spec =
+    tie.close
+    (tie.spec (λ c κs. search needs)
+    (λ c. let c1 = c .before in record { works = refused-call _ _ _ _ (c .if1 .taken) (c1 .work .ensures); kept = λ n e. refl })
+    (λ c. let c1 = c .before in record { works = made-done _ _ _ _ (c .if1 .left) (c1 .work .ensures); kept = λ n e. cc }))

@@ -3,10 +3,8 @@ use borrow.Author.Needs.{needs}
 use Rattle.tracker.proofs.Tracker.holders.Statement.{statement}
 use Rattle.tracker.proofs.Tracker.holders.Tie as tie
 
-returns : tie.Need-returns
-returns c =
-    let c2 = c .before .before in
-    λ rules. c2 .holders-in .ensures _ _ rules
-
 pub holders-spec : {M : Type 1} → statement M
-holders-spec = tie.close (tie.spec (λ c κs. search needs) (λ c. search needs) returns)
+holders-spec =
+    tie.close
+    (tie.spec (λ c κs. search needs) (λ c. search needs)
+    (λ c. let c2 = c .before .before in λ rules. c2 .holders-in .ensures _ _ rules))

@@ -3,8 +3,8 @@ use borrow.Author.Needs.{needs}
 use Rattle.tracker.proofs.Tracker.items.Statement.{statement}
 use Rattle.tracker.proofs.Tracker.items.Tie as tie
 
-returns : tie.Need-returns
-returns c = λ rules. c .items-in .ensures _ _ rules
-
 pub items-spec : {M : Type 1} → statement M
-items-spec = tie.close (tie.spec (λ c κs. search needs) returns)
+items-spec =
+    tie.close
+    (tie.spec (λ c κs. search needs)
+    (λ c. λ rules. c .items-in .ensures _ _ rules))

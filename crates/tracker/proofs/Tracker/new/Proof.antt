@@ -5,9 +5,8 @@ use Rattle.store.specs.Maps.{part, view}
 use Rattle.tracker.proofs.Tracker.new.Statement.{statement}
 use Rattle.tracker.proofs.Tracker.new.Tie as tie
 
-returns : tie.Need-returns
-unfolding view part fresh noTables
-returns c = refl
-
 pub new-spec : {M : Type 1} → statement M
-new-spec = tie.close (tie.spec returns)
+unfolding view part fresh noTables
+new-spec =
+    tie.close
+    (tie.spec (λ c. refl))

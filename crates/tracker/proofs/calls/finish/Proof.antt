@@ -5,15 +5,6 @@ use borrow.Author.Needs.{needs}
 use Rattle.tracker.proofs.calls.finish.Statement.{statement}
 use Rattle.tracker.proofs.calls.finish.Tie as tie
 
-lost-by-requires : tie.Need-lost-by-requires
-lost-by-requires c κs = c .before .before .before .pre
-
-emptied-by-requires : tie.Need-emptied-by-requires
-emptied-by-requires c κs = c .before .before .before .before .before .before .before .pre
-
-change-tables-requires : tie.Need-change-tables-requires
-change-tables-requires c κs = c .before .before .before .before .before .before .before .before .before .before .before .pre
-
 returns : tie.Need-returns
 unfolding finished
 returns c =
@@ -26,4 +17,9 @@ returns c =
     c .release .ensures ∙ rw (c4 .empty-container .ensures d n, c6 .change-tables .ensures, c10 .emptied-by .ensures, c14 .lost-by .ensures) refl
 
 pub finish-spec : {M : Type 1} → statement M
-finish-spec = tie.close (tie.spec lost-by-requires emptied-by-requires change-tables-requires (λ c κs. search needs) (λ c κs. search needs) returns)
+finish-spec =
+    tie.close
+    (tie.spec (λ c κs. c .before .before .before .pre)
+    (λ c κs. c .before .before .before .before .before .before .before .pre)
+    (λ c κs. c .before .before .before .before .before .before .before .before .before .before .before .pre)
+    (λ c κs. search needs) (λ c κs. search needs) returns)

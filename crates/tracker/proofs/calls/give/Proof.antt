@@ -21,14 +21,11 @@ returns c =
     let l : length (c2 .before .before .before .before .args .words .now) ≡ 97 = long c2 in
     quiet-given _ (part-length 1 64 (c2 .before .before .before .before .args .words .now) (omega arith)) _ (sym (c .before .gives .ensures) ∙ not-true _ (c .if1 .taken))
 
-plan-of-requires : tie.Need-plan-of-requires
-plan-of-requires c κs = c .before .before .before .before .before .before .before .pre
-
-returns-2 : tie.Need-returns-2
-unfolding given
-returns-2 c =
-    let s = c .before .before .before .before .before .before .before .before .before .before in
-    c .make-items .ensures (s .args .descriptors .now) (s .args .names .now) ∙ rw (c .before .before .plan-of .ensures)
-
 pub give-spec : {M : Type 1} → statement M
-give-spec = tie.close (tie.spec (λ c κs. search needs) (λ c κs. search needs) returns plan-of-requires (λ c κs. search needs) returns-2)
+unfolding given
+give-spec =
+    tie.close
+    (tie.spec (λ c κs. search needs) (λ c κs. search needs) returns
+    (λ c κs. c .before .before .before .before .before .before .before .pre)
+    (λ c κs. search needs)
+    (λ c. let s = c .before .before .before .before .before .before .before .before .before .before in c .make-items .ensures (s .args .descriptors .now) (s .args .names .now) ∙ rw (c .before .before .plan-of .ensures)))

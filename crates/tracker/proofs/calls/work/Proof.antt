@@ -17,18 +17,9 @@ long c = search needs
 named : (c : tie.After-lengths) → length (c .before .before .before .before .before .args .names .now) ≡ 128
 named c = search needs
 
-returns : tie.Need-returns
-returns c = refused _ _ _ (c .before .refusal .ensures) (c .if1 .taken)
-
 -- the call passes
 passing : (c : tie.Else1) → (let s = c .before .before .before .before .before .before .before .before .before .before in Passes (s .args .words .now) (s .args .descriptors .now) (s .args .names .now) (s .args .q))
 passing c = record { none-holds = passes _ _ (c .before .refusal .ensures) (c .if1 .left) }
-
-give-requires : tie.Need-give-requires
-give-requires c κs = passing (c .before .before .before)
-
-finish-requires : tie.Need-finish-requires
-finish-requires c κs = let c3 = c .before .before .before in still-passes _ _ _ _ _ (passing (c3 .before .before .before .before)) (c3 .give .ensures)
 
 returns-2 : tie.Need-returns-2
 unfolding view
@@ -44,4 +35,10 @@ returns-2 c =
     ∙ finished-call (view w (a .descriptors .now) (a .names .now)) (part-length 1 64 w (omega arith)) (part-length 65 16 w (omega arith)) (part-length 81 16 w (omega arith)) (named c13) (a .q) h)
 
 pub work-spec : {M : Type 1} → statement M
-work-spec = tie.close (tie.spec (λ c κs. search needs) (λ c κs. search needs) returns give-requires finish-requires returns-2)
+work-spec =
+    tie.close
+    (tie.spec (λ c κs. search needs) (λ c κs. search needs)
+    (λ c. refused _ _ _ (c .before .refusal .ensures) (c .if1 .taken))
+    (λ c κs. passing (c .before .before .before))
+    (λ c κs. let c3 = c .before .before .before in still-passes _ _ _ _ _ (passing (c3 .before .before .before .before)) (c3 .give .ensures))
+    returns-2)

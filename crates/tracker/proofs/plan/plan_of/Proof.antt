@@ -65,13 +65,6 @@ returns-3 c =
     let c2 = c .before .before in
     rw (c .reach4 .ensures D N, c .before .items4 .ensures, c2 .reach3 .ensures D N, c2 .before .items3 .ensures, c2 .before .before .descriptor3 .ensures, below64 (leads-to (s .pre) mapBoth (m .match .keys3) (λ t p a b c. refl)), process-itself (s .pre)) (kind-arm (row s) (12 ∷ []) _ refl _ (m .match .keys3))
 
-returns-4 : tie.Need-returns-4
-unfolding view _∪_ planAt planBy planOf flowBy kinds descriptor kindNumber ranges missing
-returns-4 c =
-    let m = c .before .before in
-    let s = m .before in
-    rw (c .items5 .ensures, c .before .with .ensures, own-a (s .pre) fork (m .match .keys4) refl) (kind-arm (row s) (17 ∷ []) _ refl _ (m .match .keys4))
-
 returns-5 : tie.Need-returns-5
 unfolding view _∪_ planAt planBy planOf flowBy kinds descriptor kindNumber ranges missing
 returns-5 c =
@@ -81,11 +74,14 @@ returns-5 c =
     let N = s .args .names .now in
     rw (c .giving3 .ensures, c .before .reach5 .ensures D N, c .before .before .with2 .ensures, below64 (container-a (s .pre) label (m .match .keys5) refl), below64 (item-b (s .pre) label (m .match .keys5) refl)) (kind-arm (row s) (19 ∷ []) _ refl _ (m .match .keys5))
 
-returns-6 : tie.Need-returns-6
-unfolding view _∪_ planAt planBy planOf flowBy kinds descriptor kindNumber ranges missing
-returns-6 c =
-    let m = c .before in
-    c .giving4 .ensures ∙ kind-rest (row (m .before)) ((19 ∷ []) ∷ (17 ∷ []) ∷ (12 ∷ []) ∷ (9 ∷ []) ∷ (8 ∷ 11 ∷ []) ∷ []) refl _ (m .match .rest)
-
 pub plan-of-spec : {M : Type 1} → statement M
-plan-of-spec = tie.close (tie.spec (λ c κs. search needs) add-own (λ c κs. search needs) (λ c κs. search needs) (λ c κs. search needs) (λ c κs. search needs) add-own-2 (λ c κs. search needs) (λ c κs. search needs) (λ c κs. search needs) (λ c κs. search needs) add-own-3 (λ c κs. search needs) (λ c κs. search needs) (λ c κs. search needs) (λ c κs. search needs) add-with (λ c κs. search needs) add-own-4 (λ c κs. search needs) (λ c κs. search needs) (λ c κs. search needs) (λ c κs. search needs) (λ c κs. search needs) returns returns-2 returns-3 returns-4 returns-5 returns-6)
+unfolding view _∪_ planAt planBy planOf flowBy kinds descriptor kindNumber ranges missing
+plan-of-spec =
+    tie.close
+    (tie.spec (λ c κs. search needs) add-own (λ c κs. search needs) (λ c κs. search needs) (λ c κs. search needs) (λ c κs. search needs) add-own-2 (λ c κs. search needs)
+    (λ c κs. search needs) (λ c κs. search needs) (λ c κs. search needs) add-own-3 (λ c κs. search needs) (λ c κs. search needs) (λ c κs. search needs)
+    (λ c κs. search needs) add-with (λ c κs. search needs) add-own-4 (λ c κs. search needs) (λ c κs. search needs) (λ c κs. search needs) (λ c κs. search needs)
+    (λ c κs. search needs) returns returns-2 returns-3
+    (λ c. let m = c .before .before in let s = m .before in rw (c .items5 .ensures, c .before .with .ensures, own-a (s .pre) fork (m .match .keys4) refl) (kind-arm (row s) (17 ∷ []) _ refl _ (m .match .keys4)))
+    returns-5
+    (λ c. let m = c .before in c .giving4 .ensures ∙ kind-rest (row (m .before)) ((19 ∷ []) ∷ (17 ∷ []) ∷ (12 ∷ []) ∷ (9 ∷ []) ∷ (8 ∷ 11 ∷ []) ∷ []) refl _ (m .match .rest)))

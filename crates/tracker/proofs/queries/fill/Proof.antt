@@ -45,27 +45,10 @@ loop-again c = turn (c .before) .next (c .without .result) (c .without .ensures)
 same-length : tie.Need-same-length Inv-loop μ-loop
 same-length c = c .before .loop .inv .long
 
-returns : tie.Need-returns Inv-loop μ-loop
-returns c =
-    let at = c .before in
-    let a = at .before .before .args in
-    partly-all (a .x) (a .out .now) (at .loop .out) (at .loop .left) (at .loop .n) (at .loop .inv) (c .loop-test .left)
-
 pub fill-spec : {M : Type 1} → statement M
 fill-spec =
     tie.close
     (tie.spec
-    Inv-loop
-    μ-loop
-    loop-holds
-    (λ c κs. search needs)
-    cast-out
-    (λ c. search needs)
-    slice-write-out
-    cast-without
-    (λ c κs. search needs)
-    add-n
-    loop-less
-    loop-again
+    Inv-loop μ-loop loop-holds (λ c κs. search needs) cast-out (λ c. search needs) slice-write-out cast-without (λ c κs. search needs) add-n loop-less loop-again
     same-length
-    returns)
+    (λ c. let at = c .before in let a = at .before .before .args in partly-all (a .x) (a .out .now) (at .loop .out) (at .loop .left) (at .loop .n) (at .loop .inv) (c .loop-test .left)))

@@ -26,25 +26,9 @@ loop-again c =
     let a = c4 .args in
     (search needs, found-next (part 1 64 (a .words .now)) (a .i % 64) (c3 .loop .c) (c3 .loop .x) (c .with-holder .result) (omega arith) (c3 .loop .inv .1) (rw (c1 .items .ensures) at (c .with-holder .ensures)))
 
-returns : tie.Need-returns Inv-loop μ-loop
-unfolding view
-returns c =
-    let c1 = c .before in
-    let c2 = c1 .before in
-    let a = c2 .args in
-    let done : c1 .loop .c ≡ 64 = omega arith in
-    λ d n rules. rw done at (c1 .loop .inv .1) ∙ found-all (state (view (a .words .now) d n) rules) (a .i % 64)
-
 pub holder-set-spec : {M : Type 1} → statement M
+unfolding view
 holder-set-spec =
     tie.close
-    (tie.spec
-    Inv-loop
-    μ-loop
-    loop-holds
-    (λ c κs. search needs)
-    (λ c κs. search needs)
-    (λ c. search needs)
-    (λ c. search needs)
-    loop-again
-    returns)
+    (tie.spec Inv-loop μ-loop loop-holds (λ c κs. search needs) (λ c κs. search needs) (λ c. search needs) (λ c. search needs) loop-again
+    (λ c. let c1 = c .before in let c2 = c1 .before in let a = c2 .args in let done : c1 .loop .c ≡ 64 = omega arith in λ d n rules. rw done at (c1 .loop .inv .1) ∙ found-all (state (view (a .words .now) d n) rules) (a .i % 64)))

@@ -7,12 +7,6 @@ use Rattle.tracker.proofs.Holders.{refused-range, refused-short, holder
 use Rattle.tracker.proofs.queries.holders_in.Statement.{statement}
 use Rattle.tracker.proofs.queries.holders_in.Tie as tie
 
-returns : tie.Need-returns
-returns c =
-    let c2 = c .before .before in
-    let a = c2 .args in
-    λ d n rules. refused-range (state (view (a .words .now) d n) rules) (a .i) (a .out .now) (omega arith)
-
 returns-2 : tie.Need-returns-2
 returns-2 c =
     let c1 = c .before in
@@ -36,11 +30,5 @@ pub holders-in-spec : {M : Type 1} → statement M
 holders-in-spec =
     tie.close
     (tie.spec
-    returns
-    (λ c κs. search needs)
-    (λ c κs. search needs)
-    (λ c. search needs)
-    returns-2
-    (λ c κs. search needs)
-    (λ c. search needs)
-    returns-3)
+    (λ c. let c2 = c .before .before in let a = c2 .args in λ d n rules. refused-range (state (view (a .words .now) d n) rules) (a .i) (a .out .now) (omega arith))
+    (λ c κs. search needs) (λ c κs. search needs) (λ c. search needs) returns-2 (λ c κs. search needs) (λ c. search needs) returns-3)

@@ -10,17 +10,10 @@ use Rattle.tracker.proofs.Holders.{items-given, items-refused}
 use Rattle.tracker.proofs.queries.items_in.Statement.{statement}
 use Rattle.tracker.proofs.queries.items_in.Tie as tie
 
-returns : tie.Need-returns
-unfolding view itemsOf replyOf
-returns c =
-    let c1 = c .before in
-    let c2 = c1 .before in
-    λ d n rules. let a = c2 .args in ap result (c .items .ensures) ∙ items-given (state (view (a .words .now) d n) rules) (a .c) (c1 .if1 .taken)
-
-returns-2 : tie.Need-returns-2
-returns-2 c =
-    let c1 = c .before in
-    λ d n rules. let a = c1 .args in items-refused (state (view (a .words .now) d n) rules) (a .c) (c .if1 .left)
-
 pub items-in-spec : {M : Type 1} → statement M
-items-in-spec = tie.close (tie.spec (λ c κs. search needs) returns returns-2)
+unfolding view itemsOf replyOf
+items-in-spec =
+    tie.close
+    (tie.spec (λ c κs. search needs)
+    (λ c. let c1 = c .before in let c2 = c1 .before in λ d n rules. let a = c2 .args in ap result (c .items .ensures) ∙ items-given (state (view (a .words .now) d n) rules) (a .c) (c1 .if1 .taken))
+    (λ c. let c1 = c .before in λ d n rules. let a = c1 .args in items-refused (state (view (a .words .now) d n) rules) (a .c) (c .if1 .left)))

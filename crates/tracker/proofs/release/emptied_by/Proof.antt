@@ -25,24 +25,6 @@ row s = emptiedAt (view (s .args .words .now) (s .args .descriptors .now) (s .ar
 add-result : tie.Need-add-result
 add-result c = omega (arith, process-lt (c .before .pre))
 
-returns : tie.Need-returns
-unfolding view emptiedAt emptiedBy kinds
-returns c =
-    let s = c .before in
-    containerSet-low _ (omega (arith, process-lt (s .pre))) ∙ kind-arm (row s) (1 ∷ []) _ refl _ (c .match .keys1)
-
-returns-2 : tie.Need-returns-2
-unfolding view emptiedAt emptiedBy kinds kindNumber ranges
-returns-2 c =
-    let s = c .before in
-    containerSet-low _ (file-c (s .pre) create (c .match .keys2) refl) ∙ kind-arm (row s) (3 ∷ []) _ refl _ (c .match .keys2)
-
-returns-3 : tie.Need-returns-3
-unfolding view emptiedAt emptiedBy kinds kindNumber ranges
-returns-3 c =
-    let s = c .before in
-    containerSet-low _ (file-c (s .pre) pipe (c .match .keys3) refl) ∙ kind-arm (row s) (4 ∷ []) _ refl _ (c .match .keys3)
-
 returns-4 : tie.Need-returns-4
 unfolding view emptiedAt emptiedBy kinds descriptor kindNumber missing
 returns-4 c =
@@ -50,9 +32,13 @@ returns-4 c =
     let s = m .before in
     rw (c .free .ensures (s .args .descriptors .now) (s .args .names .now), c .before .descriptor .ensures, free-entry _ _ (leads-to (s .pre) truncate (m .match .keys4) (λ t p a b c. refl))) (kind-arm (row s) (10 ∷ []) _ refl _ (m .match .keys4))
 
-returns-5 : tie.Need-returns-5
-unfolding view emptiedAt emptiedBy kinds containerSet
-returns-5 c = kind-rest (row (c .before)) ((10 ∷ []) ∷ (4 ∷ []) ∷ (3 ∷ []) ∷ (1 ∷ []) ∷ []) refl _ (c .match .rest)
-
 pub emptied-by-spec : {M : Type 1} → statement M
-emptied-by-spec = tie.close (tie.spec add-result (λ c κs. search needs) (λ c κs. search needs) returns returns-2 returns-3 returns-4 returns-5)
+unfolding view emptiedAt emptiedBy kinds kindNumber ranges containerSet
+emptied-by-spec =
+    tie.close
+    (tie.spec add-result (λ c κs. search needs) (λ c κs. search needs)
+    (λ c. let s = c .before in containerSet-low _ (omega (arith, process-lt (s .pre))) ∙ kind-arm (row s) (1 ∷ []) _ refl _ (c .match .keys1))
+    (λ c. let s = c .before in containerSet-low _ (file-c (s .pre) create (c .match .keys2) refl) ∙ kind-arm (row s) (3 ∷ []) _ refl _ (c .match .keys2))
+    (λ c. let s = c .before in containerSet-low _ (file-c (s .pre) pipe (c .match .keys3) refl) ∙ kind-arm (row s) (4 ∷ []) _ refl _ (c .match .keys3))
+    returns-4
+    (λ c. kind-rest (row (c .before)) ((10 ∷ []) ∷ (4 ∷ []) ∷ (3 ∷ []) ∷ (1 ∷ []) ∷ []) refl _ (c .match .rest)))

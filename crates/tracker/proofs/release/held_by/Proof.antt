@@ -7,12 +7,9 @@ use borrow.Author.Needs.{needs}
 use Rattle.tracker.proofs.release.held_by.Statement.{statement}
 use Rattle.tracker.proofs.release.held_by.Tie as tie
 
-returns : tie.Need-returns
-unfolding heldBy view feedersOf feeds _∪_ _∩_
-returns c =
-    let c1 = c .before in
-    let c2 = c1 .before in
-    λ n. rw (c2 .block-files .ensures, c1 .feeders .ensures, c .fed .ensures)
-
 pub held-by-spec : {M : Type 1} → statement M
-held-by-spec = tie.close (tie.spec (λ c κs. search needs) (λ c κs. search needs) (λ c κs. search needs) returns)
+unfolding heldBy view feedersOf feeds _∪_ _∩_
+held-by-spec =
+    tie.close
+    (tie.spec (λ c κs. search needs) (λ c κs. search needs) (λ c κs. search needs)
+    (λ c. let c1 = c .before in let c2 = c1 .before in λ n. rw (c2 .block-files .ensures, c1 .feeders .ensures, c .fed .ensures)))

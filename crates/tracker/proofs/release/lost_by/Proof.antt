@@ -23,41 +23,6 @@ row c = lostAt (view (c .args .words .now) (c .args .descriptors .now) (c .args 
 add-with : tie.Need-add-with
 add-with c = omega (arith, process-lt (c .before .before .pre))
 
-returns : tie.Need-returns
-unfolding view lostAt lostBy kinds descriptor
-returns c =
-    let m = c .before .before in
-    let s = m .before in
-    rw (c .losing .ensures, c .before .descriptor .ensures, union-none) (kind-arm (row s) (7 ∷ []) _ refl _ (m .match .keys1))
-
-returns-2 : tie.Need-returns-2
-unfolding view lostAt lostBy kinds
-returns-2 c =
-    let m = c .before in
-    let s = m .before in
-    rw (c .losing2 .ensures, union-none) (kind-arm (row s) (13 ∷ []) _ refl _ (m .match .keys2))
-
-returns-3 : tie.Need-returns-3
-unfolding view lostAt lostBy kinds name kindNumber ranges
-returns-3 c =
-    let m = c .before .before in
-    let s = m .before in
-    rw (c .losing3 .ensures, c .before .name .ensures, union-none, name-a (s .pre) unlink (m .match .keys3) refl) (kind-arm (row s) (14 ∷ []) _ refl _ (m .match .keys3))
-
-returns-4 : tie.Need-returns-4
-unfolding view lostAt lostBy kinds name kindNumber ranges
-returns-4 c =
-    let m = c .before .before in
-    let s = m .before in
-    rw (c .losing4 .ensures, c .before .name2 .ensures, union-none, name-b (s .pre) rename (m .match .keys4) refl) (kind-arm (row s) (15 ∷ []) _ refl _ (m .match .keys4))
-
-returns-5 : tie.Need-returns-5
-unfolding view lostAt lostBy kinds fileSet isFile
-returns-5 c =
-    let m = c .before .before in
-    let s = m .before in
-    rw (c .losing5 .ensures, c .before .held-by .ensures (s .args .names .now), none-union) (kind-arm (row s) (17 ∷ []) _ refl _ (m .match .keys5))
-
 returns-6 : tie.Need-returns-6
 unfolding view lostAt lostBy kinds fileSet isFile
 returns-6 c =
@@ -65,34 +30,17 @@ returns-6 c =
     let s = m .before in
     rw (c .losing6 .ensures, c .before .with .ensures, c .before .before .held-by2 .ensures (s .args .names .now), process-itself (s .pre), none-union) (kind-arm (row s) (18 ∷ []) _ refl _ (m .match .keys6))
 
-returns-7 : tie.Need-returns-7
-unfolding lostAt lostBy kinds fileSet isFile
-returns-7 c =
-    let m = c .before in
-    rw (c .losing7 .ensures, none-union) (kind-rest (row (m .before)) ((18 ∷ []) ∷ (17 ∷ []) ∷ (15 ∷ []) ∷ (14 ∷ []) ∷ (13 ∷ []) ∷ (7 ∷ []) ∷ []) refl _ (m .match .rest))
-
 pub lost-by-spec : {M : Type 1} → statement M
+unfolding view lostAt lostBy kinds descriptor name kindNumber ranges fileSet isFile
 lost-by-spec =
     tie.close
     (tie.spec
-    (λ c κs. search needs)
-    (λ c κs. search needs)
-    (λ c κs. search needs)
-    (λ c κs. search needs)
-    (λ c κs. search needs)
-    (λ c κs. search needs)
-    (λ c κs. search needs)
-    (λ c κs. search needs)
-    (λ c κs. search needs)
-    (λ c κs. search needs)
-    add-with
-    (λ c κs. search needs)
-    (λ c κs. search needs)
-    (λ c κs. search needs)
-    returns
-    returns-2
-    returns-3
-    returns-4
-    returns-5
+    (λ c κs. search needs) (λ c κs. search needs) (λ c κs. search needs) (λ c κs. search needs) (λ c κs. search needs) (λ c κs. search needs) (λ c κs. search needs)
+    (λ c κs. search needs) (λ c κs. search needs) (λ c κs. search needs) add-with (λ c κs. search needs) (λ c κs. search needs) (λ c κs. search needs)
+    (λ c. let m = c .before .before in let s = m .before in rw (c .losing .ensures, c .before .descriptor .ensures, union-none) (kind-arm (row s) (7 ∷ []) _ refl _ (m .match .keys1)))
+    (λ c. let m = c .before in let s = m .before in rw (c .losing2 .ensures, union-none) (kind-arm (row s) (13 ∷ []) _ refl _ (m .match .keys2)))
+    (λ c. let m = c .before .before in let s = m .before in rw (c .losing3 .ensures, c .before .name .ensures, union-none, name-a (s .pre) unlink (m .match .keys3) refl) (kind-arm (row s) (14 ∷ []) _ refl _ (m .match .keys3)))
+    (λ c. let m = c .before .before in let s = m .before in rw (c .losing4 .ensures, c .before .name2 .ensures, union-none, name-b (s .pre) rename (m .match .keys4) refl) (kind-arm (row s) (15 ∷ []) _ refl _ (m .match .keys4)))
+    (λ c. let m = c .before .before in let s = m .before in rw (c .losing5 .ensures, c .before .held-by .ensures (s .args .names .now), none-union) (kind-arm (row s) (17 ∷ []) _ refl _ (m .match .keys5)))
     returns-6
-    returns-7)
+    (λ c. let m = c .before in rw (c .losing7 .ensures, none-union) (kind-rest (row (m .before)) ((18 ∷ []) ∷ (17 ∷ []) ∷ (15 ∷ []) ∷ (14 ∷ []) ∷ (13 ∷ []) ∷ (7 ∷ []) ∷ []) refl _ (m .match .rest))))

@@ -40,8 +40,8 @@ loop-again c =
     let v = c .before .before .before in
     releasing-more (v .before .before .loop .inv) (v .before .loop-test .taken) _ (v .lowest .ensures) _ _ (c .before .release-one .ensures) (c .without .ensures)
 
-returns : tie.Need-returns Inv-loop μ-loop
-returns c = releasing-end (c .before .loop .inv) (c .loop-test .left)
-
 pub release-each-spec : {M : Type 1} → statement M
-release-each-spec = tie.close (tie.spec Inv-loop μ-loop (λ c κs. search needs) loop-holds (λ c κs. search needs) cast-v (λ c κs. search needs) (λ c κs. search needs) loop-less loop-again returns)
+release-each-spec =
+    tie.close
+    (tie.spec Inv-loop μ-loop (λ c κs. search needs) loop-holds (λ c κs. search needs) cast-v (λ c κs. search needs) (λ c κs. search needs) loop-less loop-again
+    (λ c. releasing-end (c .before .loop .inv) (c .loop-test .left)))

@@ -23,33 +23,6 @@ free c = sym (c .before .holds2 .ensures) ∙ c .if4 .left
 there : (c : tie.Else5) → (let a = c .before .before .before .before .before .before .before .before .args in missingAt (view (a .words .now) (a .descriptors .now) (a .names .now) .tables) (a .q) (kindOf (a .kind)) ≡ false)
 there c = sym (c .before .holds3 .ensures) ∙ c .if5 .left
 
-returns : tie.Need-returns
-returns c = let c2 = c .before .before in five-first _ _ _ (sym (c .before .is-known .ensures) ∙ c .if2 .taken) (sym (c2 .before .fits2 .ensures) ∙ not-true _ (c2 .if1 .taken))
-
-returns-2 : tie.Need-returns-2
-returns-2 c = let a = c .before .before .before .before .args in four-first _ (a .q) (kindOf (a .kind)) (sym (c .before .is-known .ensures) ∙ c .if2 .left)
-
-returns-3 : tie.Need-returns-3
-returns-3 c =
-    let c2 = c .before .before in
-    six-first _ _ _ (fit c2) (sym (c .before .holds .ensures) ∙ c .if3 .taken)
-
-returns-4 : tie.Need-returns-4
-returns-4 c = let c2 = c .before .before in seven-first _ _ _ (fit (c2 .before .before)) (lives c2) (sym (c .before .holds2 .ensures) ∙ c .if4 .taken)
-
-returns-5 : tie.Need-returns-5
-returns-5 c =
-    let c2 = c .before .before in
-    let c4 = c2 .before .before in
-    eight-first _ _ _ (fit (c4 .before .before)) (lives c4) (free c2) (sym (c .before .holds3 .ensures) ∙ c .if5 .taken)
-
-returns-6 : tie.Need-returns-6
-returns-6 c =
-    let c2 = c .before .before in
-    let c4 = c2 .before .before in
-    let c6 = c4 .before .before in
-    nine-first _ _ _ (fit (c6 .before .before)) (lives c6) (free c4) (there c2) (sym (c .before .holds4 .ensures) ∙ c .if6 .taken)
-
 returns-7 : tie.Need-returns-7
 returns-7 c =
     let c2 = c .before .before in
@@ -69,4 +42,17 @@ returns-8 c =
     none-first _ _ _ (fit c10) (lives c8) (free c6) (there c4) (sym (c2 .before .holds4 .ensures) ∙ c2 .if6 .left) (sym (c .before .holds5 .ensures) ∙ c .if7 .left)
 
 pub first-spec : {M : Type 1} → statement M
-first-spec = tie.close (tie.spec (λ c κs. search needs) (λ c κs. search needs) returns returns-2 (λ c κs. search needs) returns-3 (λ c κs. search needs) returns-4 (λ c κs. search needs) returns-5 (λ c κs. search needs) returns-6 (λ c κs. search needs) returns-7 returns-8)
+first-spec =
+    tie.close
+    (tie.spec (λ c κs. search needs) (λ c κs. search needs)
+    (λ c. let c2 = c .before .before in five-first _ _ _ (sym (c .before .is-known .ensures) ∙ c .if2 .taken) (sym (c2 .before .fits2 .ensures) ∙ not-true _ (c2 .if1 .taken)))
+    (λ c. let a = c .before .before .before .before .args in four-first _ (a .q) (kindOf (a .kind)) (sym (c .before .is-known .ensures) ∙ c .if2 .left))
+    (λ c κs. search needs)
+    (λ c. let c2 = c .before .before in six-first _ _ _ (fit c2) (sym (c .before .holds .ensures) ∙ c .if3 .taken))
+    (λ c κs. search needs)
+    (λ c. let c2 = c .before .before in seven-first _ _ _ (fit (c2 .before .before)) (lives c2) (sym (c .before .holds2 .ensures) ∙ c .if4 .taken))
+    (λ c κs. search needs)
+    (λ c. let c2 = c .before .before in let c4 = c2 .before .before in eight-first _ _ _ (fit (c4 .before .before)) (lives c4) (free c2) (sym (c .before .holds3 .ensures) ∙ c .if5 .taken))
+    (λ c κs. search needs)
+    (λ c. let c2 = c .before .before in let c4 = c2 .before .before in let c6 = c4 .before .before in nine-first _ _ _ (fit (c6 .before .before)) (lives c6) (free c4) (there c2) (sym (c .before .holds4 .ensures) ∙ c .if6 .taken))
+    (λ c κs. search needs) returns-7 returns-8)

@@ -16,66 +16,6 @@ use Rattle.tracker.proofs.rows.fits.Tie as tie
 abbrev row : tie.Start → Option Kind → Bool
 row c = fitsAt (c .args .q)
 
-returns : tie.Need-returns
-unfolding fitsAt fieldsFit ranges inRange isFile kinds
-returns c =
-    let c1 = c .before in
-    kind-arm (row (c1)) (1 ∷ 18 ∷ []) _ refl _ (c .match .keys1)
-
-returns-2 : tie.Need-returns-2
-unfolding fitsAt fieldsFit ranges inRange isFile kinds
-returns-2 c =
-    let c1 = c .before in
-    kind-arm (row (c1)) (2 ∷ []) _ refl _ (c .match .keys2)
-
-returns-3 : tie.Need-returns-3
-unfolding fitsAt fieldsFit ranges inRange isFile kinds
-returns-3 c =
-    let c1 = c .before in
-    kind-arm (row (c1)) (3 ∷ []) _ refl _ (c .match .keys3)
-
-returns-4 : tie.Need-returns-4
-unfolding fitsAt fieldsFit ranges inRange isFile kinds
-returns-4 c =
-    let c1 = c .before in
-    kind-arm (row (c1)) (4 ∷ []) _ refl _ (c .match .keys4)
-
-returns-5 : tie.Need-returns-5
-unfolding fitsAt fieldsFit ranges inRange isFile kinds
-returns-5 c =
-    let c1 = c .before in
-    kind-arm (row (c1)) (5 ∷ []) _ refl _ (c .match .keys5)
-
-returns-6 : tie.Need-returns-6
-unfolding fitsAt fieldsFit ranges inRange isFile kinds
-returns-6 c =
-    let c1 = c .before in
-    kind-arm (row (c1)) (6 ∷ []) _ refl _ (c .match .keys6)
-
-returns-7 : tie.Need-returns-7
-unfolding fitsAt fieldsFit ranges inRange isFile kinds
-returns-7 c =
-    let c1 = c .before in
-    kind-arm (row (c1)) (13 ∷ []) _ refl _ (c .match .keys7)
-
-returns-8 : tie.Need-returns-8
-unfolding fitsAt fieldsFit ranges inRange isFile kinds
-returns-8 c =
-    let c1 = c .before in
-    kind-arm (row (c1)) (14 ∷ []) _ refl _ (c .match .keys8)
-
-returns-9 : tie.Need-returns-9
-unfolding fitsAt fieldsFit ranges inRange isFile kinds
-returns-9 c =
-    let c1 = c .before in
-    kind-arm (row (c1)) (17 ∷ []) _ refl _ (c .match .keys9)
-
-returns-10 : tie.Need-returns-10
-unfolding fitsAt fieldsFit ranges inRange isFile kinds
-returns-10 c =
-    let c1 = c .before in
-    kind-arm (row (c1)) (19 ∷ []) _ refl _ (c .match .keys10)
-
 returns-11 : tie.Need-returns-11
 unfolding fitsAt fieldsFit ranges inRange isFile kinds
 returns-11 c =
@@ -107,20 +47,17 @@ returns-14 c =
     kind-from (row (c4)) ((19 ∷ []) ∷ (17 ∷ []) ∷ (14 ∷ []) ∷ (13 ∷ []) ∷ (6 ∷ []) ∷ (5 ∷ []) ∷ (4 ∷ []) ∷ (3 ∷ []) ∷ (2 ∷ []) ∷ (1 ∷ 18 ∷ []) ∷ []) 17 refl _ (c3 .match .rest) (c .if3 .left)
 
 pub fits-spec : {M : Type 1} → statement M
+unfolding fitsAt fieldsFit ranges inRange isFile kinds
 fits-spec =
     tie.close
-    (tie.spec
-    returns
-    returns-2
-    returns-3
-    returns-4
-    returns-5
-    returns-6
-    returns-7
-    returns-8
-    returns-9
-    returns-10
-    returns-11
-    returns-12
-    returns-13
-    returns-14)
+    (tie.spec (λ c. let c1 = c .before in kind-arm (row (c1)) (1 ∷ 18 ∷ []) _ refl _ (c .match .keys1))
+    (λ c. let c1 = c .before in kind-arm (row (c1)) (2 ∷ []) _ refl _ (c .match .keys2))
+    (λ c. let c1 = c .before in kind-arm (row (c1)) (3 ∷ []) _ refl _ (c .match .keys3))
+    (λ c. let c1 = c .before in kind-arm (row (c1)) (4 ∷ []) _ refl _ (c .match .keys4))
+    (λ c. let c1 = c .before in kind-arm (row (c1)) (5 ∷ []) _ refl _ (c .match .keys5))
+    (λ c. let c1 = c .before in kind-arm (row (c1)) (6 ∷ []) _ refl _ (c .match .keys6))
+    (λ c. let c1 = c .before in kind-arm (row (c1)) (13 ∷ []) _ refl _ (c .match .keys7))
+    (λ c. let c1 = c .before in kind-arm (row (c1)) (14 ∷ []) _ refl _ (c .match .keys8))
+    (λ c. let c1 = c .before in kind-arm (row (c1)) (17 ∷ []) _ refl _ (c .match .keys9))
+    (λ c. let c1 = c .before in kind-arm (row (c1)) (19 ∷ []) _ refl _ (c .match .keys10))
+    returns-11 returns-12 returns-13 returns-14)

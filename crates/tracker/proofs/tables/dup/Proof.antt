@@ -4,8 +4,8 @@ use borrow.Author.Needs.{needs}
 use Rattle.tracker.proofs.tables.dup.Statement.{statement}
 use Rattle.tracker.proofs.tables.dup.Tie as tie
 
-returns : tie.Need-returns
-returns c = rw (c .set-descriptor .ensures, c .before .before .descriptor .ensures) refl
-
 pub dup-spec : {M : Type 1} → statement M
-dup-spec = tie.close (tie.spec (λ c κs. search needs) (λ c κs. search needs) returns)
+dup-spec =
+    tie.close
+    (tie.spec (λ c κs. search needs) (λ c κs. search needs)
+    (λ c. rw (c .set-descriptor .ensures, c .before .before .descriptor .ensures) refl))

@@ -17,18 +17,10 @@ use Rattle.tracker.proofs.rows.dead.holds.Tie as tie
 abbrev row : tie.Start → Option Kind → Bool
 row c = deadAt (view (c .args .words .now) (c .args .descriptors .now) (c .args .names .now) .tables) (c .args .q)
 
-returns : tie.Need-returns
-unfolding view deadAt dead kinds isKind kindNumber isLive
-returns c =
-    let c1 = c .before in
-    kind-arm (row (c1)) (1 ∷ 19 ∷ []) _ refl _ (c .match .keys1)
-
-returns-2 : tie.Need-returns-2
-unfolding view deadAt dead kinds isKind kindNumber isLive
-returns-2 c =
-    let c1 = c .before in
-    let c2 = c1 .before in
-    rw (c .is-live .ensures) (kind-rest (row (c2)) ((1 ∷ 19 ∷ []) ∷ []) refl _ (c1 .match .rest))
-
 pub holds-spec : {M : Type 1} → statement M
-holds-spec = tie.close (tie.spec (λ c κs. search needs) returns returns-2)
+unfolding view deadAt dead kinds isKind kindNumber isLive
+holds-spec =
+    tie.close
+    (tie.spec (λ c κs. search needs)
+    (λ c. let c1 = c .before in kind-arm (row (c1)) (1 ∷ 19 ∷ []) _ refl _ (c .match .keys1))
+    (λ c. let c1 = c .before in let c2 = c1 .before in rw (c .is-live .ensures) (kind-rest (row (c2)) ((1 ∷ 19 ∷ []) ∷ []) refl _ (c1 .match .rest))))

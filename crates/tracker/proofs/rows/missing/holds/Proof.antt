@@ -29,13 +29,6 @@ returns c =
     let c5 = c4 .before in
     rw (c .holds2 .ensures, c1 .fed .ensures, c2 .holds .ensures, c3 .feeders .ensures) (kind-arm (row (c5)) (13 ∷ []) _ refl _ (c4 .match .keys2))
 
-returns-2 : tie.Need-returns-2
-unfolding view missingAt missing kinds isOpen isBound descriptor name feedersOf feeds
-returns-2 c =
-    let c1 = c .before in
-    let c2 = c1 .before in
-    rw (c .in-use .ensures) (kind-arm (row (c2)) (19 ∷ []) _ refl _ (c1 .match .keys3))
-
 returns-3 : tie.Need-returns-3
 unfolding view missingAt missing kinds isOpen isBound descriptor name feedersOf feeds
 returns-3 c =
@@ -44,20 +37,6 @@ returns-3 c =
     let c3 = c2 .before in
     let c4 = c3 .before in
     rw (c .is-open .ensures) (kind-between (row (c4)) ((19 ∷ []) ∷ (13 ∷ []) ∷ (2 ∷ []) ∷ []) 6 13 _ refl _ (c3 .match .rest) (c2 .if1 .left) (c1 .if2 .taken) (omega arith))
-
-returns-4 : tie.Need-returns-4
-unfolding view missingAt missing kinds isOpen isBound descriptor name feedersOf feeds
-returns-4 c =
-    let c1 = c .before in
-    let c2 = c1 .before in
-    kind-between (row (c2)) ((19 ∷ []) ∷ (13 ∷ []) ∷ (2 ∷ []) ∷ []) 0 6 _ refl _ (c1 .match .rest) (omega arith) (c .if1 .taken) (omega arith)
-
-returns-5 : tie.Need-returns-5
-unfolding view missingAt missing kinds isOpen isBound descriptor name feedersOf feeds
-returns-5 c =
-    let c3 = c .before .before .before in
-    let c4 = c3 .before in
-    kind-from (row (c4)) ((19 ∷ []) ∷ (13 ∷ []) ∷ (2 ∷ []) ∷ []) 17 refl _ (c3 .match .rest) (c .if3 .left)
 
 returns-6 : tie.Need-returns-6
 unfolding view missingAt missing kinds isOpen isBound descriptor name feedersOf feeds
@@ -70,19 +49,14 @@ returns-6 c =
     (c1 .match .came))
 
 pub holds-spec : {M : Type 1} → statement M
+unfolding view missingAt missing kinds isOpen isBound descriptor name feedersOf feeds
 holds-spec =
     tie.close
     (tie.spec
-    (λ c κs. search needs)
-    (λ c κs. search needs)
-    (λ c κs. search needs)
-    (λ c κs. search needs)
-    (λ c κs. search needs)
-    (λ c κs. search needs)
-    (λ c κs. search needs)
+    (λ c κs. search needs) (λ c κs. search needs) (λ c κs. search needs) (λ c κs. search needs) (λ c κs. search needs) (λ c κs. search needs) (λ c κs. search needs)
     returns
-    returns-2
+    (λ c. let c1 = c .before in let c2 = c1 .before in rw (c .in-use .ensures) (kind-arm (row (c2)) (19 ∷ []) _ refl _ (c1 .match .keys3)))
     returns-3
-    returns-4
-    returns-5
+    (λ c. let c1 = c .before in let c2 = c1 .before in kind-between (row (c2)) ((19 ∷ []) ∷ (13 ∷ []) ∷ (2 ∷ []) ∷ []) 0 6 _ refl _ (c1 .match .rest) (omega arith) (c .if1 .taken) (omega arith))
+    (λ c. let c3 = c .before .before .before in let c4 = c3 .before in kind-from (row (c4)) ((19 ∷ []) ∷ (13 ∷ []) ∷ (2 ∷ []) ∷ []) 17 refl _ (c3 .match .rest) (c .if3 .left))
     returns-6)

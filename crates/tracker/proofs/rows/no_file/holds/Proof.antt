@@ -17,18 +17,10 @@ use Rattle.tracker.proofs.rows.no_file.holds.Tie as tie
 abbrev row : tie.Start → Option Kind → Bool
 row c = noFileAt (view (c .args .words .now) (c .args .descriptors .now) (c .args .names .now) .tables) (c .args .q)
 
-returns : tie.Need-returns
-unfolding view noFileAt noFile kinds isKind kindNumber descriptor isDevice
-returns c =
-    let c1 = c .before in
-    let c2 = c1 .before in
-    rw (c .descriptor .ensures) (kind-arm (row (c2)) (10 ∷ []) _ refl _ (c1 .match .keys1))
-
-returns-2 : tie.Need-returns-2
-unfolding view noFileAt noFile kinds isKind kindNumber descriptor isDevice
-returns-2 c =
-    let c1 = c .before in
-    kind-rest (row (c1)) ((10 ∷ []) ∷ []) refl _ (c .match .rest)
-
 pub holds-spec : {M : Type 1} → statement M
-holds-spec = tie.close (tie.spec (λ c κs. search needs) returns returns-2)
+unfolding view noFileAt noFile kinds isKind kindNumber descriptor isDevice
+holds-spec =
+    tie.close
+    (tie.spec (λ c κs. search needs)
+    (λ c. let c1 = c .before in let c2 = c1 .before in rw (c .descriptor .ensures) (kind-arm (row (c2)) (10 ∷ []) _ refl _ (c1 .match .keys1)))
+    (λ c. let c1 = c .before in kind-rest (row (c1)) ((10 ∷ []) ∷ []) refl _ (c .match .rest)))

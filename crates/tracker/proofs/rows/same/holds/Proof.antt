@@ -14,17 +14,9 @@ use Rattle.tracker.proofs.rows.same.holds.Tie as tie
 abbrev row : tie.Start → Option Kind → Bool
 row c = sameAt (c .args .q)
 
-returns : tie.Need-returns
-unfolding sameAt sameDescriptors kinds isKind kindNumber
-returns c =
-    let c1 = c .before in
-    kind-arm (row (c1)) (4 ∷ []) _ refl _ (c .match .keys1)
-
-returns-2 : tie.Need-returns-2
-unfolding sameAt sameDescriptors kinds isKind kindNumber
-returns-2 c =
-    let c1 = c .before in
-    kind-rest (row (c1)) ((4 ∷ []) ∷ []) refl _ (c .match .rest)
-
 pub holds-spec : {M : Type 1} → statement M
-holds-spec = tie.close (tie.spec returns returns-2)
+unfolding sameAt sameDescriptors kinds isKind kindNumber
+holds-spec =
+    tie.close
+    (tie.spec (λ c. let c1 = c .before in kind-arm (row (c1)) (4 ∷ []) _ refl _ (c .match .keys1))
+    (λ c. let c1 = c .before in kind-rest (row (c1)) ((4 ∷ []) ∷ []) refl _ (c .match .rest)))
