@@ -98,6 +98,27 @@ fn stop_in(
 }
 
 // Judges what a call that is not refused gives, and makes it where no rule is broken. Answers the rule that stops it, or 32.
+fn give_judged(
+    words: &mut [u64; 97],
+    descriptors: &[u8; 512],
+    names: &[u8; 128],
+    sets: &[u64; 32],
+    fields: &[u8; 129],
+    q: Call,
+) -> u8
+    requires { ⌜ Passes (now words) (now descriptors) (now names) q ⌝ }
+    ensures { λ k. ⌜ Gives (monitorBefore words descriptors names sets fields) q k (now (words .exit)) ⌝ }
+{
+    let plan = plan_of(words, descriptors, names, q);
+    let k = judge(words, plan, sets, fields);
+    if k != count(fields) {
+        return k;
+    }
+    make_items(words, plan);
+    RULE_COUNT
+}
+
+// The same, where calls of this kind can give. Apart, so that the compiler leads the other kinds past it.
 fn give_in(
     words: &mut [u64; 97],
     descriptors: &[u8; 512],
@@ -110,15 +131,9 @@ fn give_in(
     ensures { λ k. ⌜ Gives (monitorBefore words descriptors names sets fields) q k (now (words .exit)) ⌝ }
 {
     lengths(words, names);
-    if !gives(q.kind) {
-        return RULE_COUNT;
+    if gives(q.kind) {
+        return give_judged(words, descriptors, names, sets, fields, q);
     }
-    let plan = plan_of(words, descriptors, names, q);
-    let k = judge(words, plan, sets, fields);
-    if k != count(fields) {
-        return k;
-    }
-    make_items(words, plan);
     RULE_COUNT
 }
 
