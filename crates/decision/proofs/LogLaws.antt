@@ -1,19 +1,21 @@
 -- A log goes record by record. `Counted`: n records stand before a place of the log. `Running`: a monitor has answered them, and their codes are
 -- stored. A turn takes the record at the place and goes on behind it (`count-more`, `run-more`); at the end of the log all are answered
 -- (`count-end`, `run-end`).
-use Prim.Native.Nat.{ℕ, suc, _+_, _-_, _≤_, _<_, min}
+use Prim.Native.Nat.{ℕ, zero, suc, _+_, _*_, _-_, _/_, _≤_, _<_, min}
 use native.Mathlib.Omega.{arith}
 use native.Mathlib.Numerals.{add-one}
 use native.Mathlib.Decide.{decLt}
 use mathlib.Core.Path.{_≡_, refl, sym, ap, _∙_}
+use mathlib.Core.Logic.{_⊎_, inl, inr, ⊎-elim}
 use mathlib.Core.Bool.{true, false}
 use mathlib.Core.List.{List, [], _∷_, _++_, append-nil}
 use lib.Dec.{leb}
 use lib.ListN.{length, take, drop, set, length-drop, length-set, drop-of-length-le}
 use lib.Seq.{take-suc-set, drop-set-lt, drop-drop, append-snoc}
-use borrow.Author.Tests.{le-leb, lt-leb}
-use Rattle.flow.specs.Records.{reading, recordsIn, recordsOf}
+use borrow.Author.Tests.{le-leb}
+use Rattle.flow.specs.Records.{reading, statedLength, recordLength, cutShort, recordsIn, recordsOf}
 use Rattle.flow.specs.Verdicts.{outcome, answer, answerAll, runLog}
+use Rattle.flow.proofs.Bools.{choice}
 use Rattle.records.specs.Reading.{extentOf}
 use Rattle.records.proofs.RecordLaws.{extent-positive, extent-le, records-first, log-empty}
 use Rattle.logreader.specs.Log.{endOf, endAfter}
@@ -73,6 +75,44 @@ no-records = refl
 pub count-end : {log : List ℕ} {at n : ℕ} → Counted log at n → length log ≤ at → n ≡ length (recordsOf log)
 count-end {log} {at} {n} w l = omega (arith, ap (λ (x : List ℕ). length (recordsOf x)) (drop-of-length-le log l) ∙ no-records)
 
+-- ---- a record has at least three bytes, but for the last
+whole-or-rest : (bytes : List ℕ) → (length bytes ≤ extentOf bytes) ⊎ (3 ≤ extentOf bytes)
+unfolding extentOf recordLength
+whole-or-rest bytes =
+    choice (λ (n : ℕ). (length bytes ≤ n) ⊎ (3 ≤ n)) (cutShort bytes) (length bytes) (3 + statedLength bytes) (λ e. inl (omega arith)) (λ e. inr (omega arith))
+
+few-next : (bytes : List ℕ) (f : ℕ) → length bytes ≤ suc f → 0 < length bytes → ((x : List ℕ) → length x ≤ f → 3 * length (recordsOf x) ≤ length x + 2) → 3 * length (recordsOf bytes) ≤ length bytes + 2
+few-next bytes f l h k =
+    let e : length (recordsOf bytes) ≡ suc (length (recordsOf (drop (extentOf bytes) bytes))) = ap length (records-first bytes h) in
+    let d : length (drop (extentOf bytes) bytes) ≡ length bytes - extentOf bytes = length-drop (extentOf bytes) bytes in
+    let p : 1 ≤ extentOf bytes = extent-positive bytes h in
+    let q : extentOf bytes ≤ length bytes = extent-le bytes in
+    let i : 3 * length (recordsOf (drop (extentOf bytes) bytes)) ≤ length (drop (extentOf bytes) bytes) + 2 = k (drop (extentOf bytes) bytes) (omega arith) in
+    ⊎-elim
+    (λ (w : length bytes ≤ extentOf bytes). let z : length (recordsOf (drop (extentOf bytes) bytes)) ≡ 0 = ap (λ (x : List ℕ). length (recordsOf x)) (drop-of-length-le bytes w) ∙ no-records in omega arith)
+    (λ (w : 3 ≤ extentOf bytes). omega arith)
+    (whole-or-rest bytes)
+
+few-step : (bytes : List ℕ) (f : ℕ) → length bytes ≤ suc f → ((x : List ℕ) → length x ≤ f → 3 * length (recordsOf x) ≤ length x + 2) → 3 * length (recordsOf bytes) ≤ length bytes + 2
+few-step [] f l k = let z : length (recordsOf []) ≡ 0 = no-records in omega arith
+few-step (b ∷ bytes) f l k = few-next (b ∷ bytes) f l (omega arith) k
+
+few-none : (bytes : List ℕ) → length bytes ≤ 0 → 3 * length (recordsOf bytes) ≤ length bytes + 2
+few-none [] l = let z : length (recordsOf []) ≡ 0 = no-records in omega arith
+few-none (b ∷ bytes) l = absurd (let z : ⊥ = omega arith in z)
+
+few : (f : ℕ) (bytes : List ℕ) → length bytes ≤ f → 3 * length (recordsOf bytes) ≤ length bytes + 2
+few zero = few-none
+few (suc f) = λ bytes l. few-step bytes f l (few f)
+
+-- there is room for the answers
+
+pub few-records : (log : List ℕ) → 3 * length (recordsOf log) ≤ length log + 2
+few-records log = few (length log) log (omega arith)
+
+pub room-enough : (log : List ℕ) (room : ℕ) → length log / 3 < room → true ≡ leb (length (recordsOf log)) room
+room-enough log room h = sym (le-leb (length (recordsOf log)) room (let z : 3 * length (recordsOf log) ≤ length log + 2 = few-records log in omega arith))
+
 -- ---- running
 pub record Running (m₀ : Monitor) (log codes₀ : List ℕ) (m : Monitor) (at n : ℕ) (codes : List ℕ) : Type 0 where
   pub counted : Counted log at n
@@ -123,8 +163,6 @@ module _ {m₀ : Monitor} {log codes₀ : List ℕ} {m : Monitor} {at n : ℕ} {
         λ z. (sym (rw (w .stored z, over, append-nil)), sym (rw (w .state z, over)), w .sound z),
       )
 
-pub run-refused : (m : Monitor) (log codes : List ℕ) (n : ℕ) → n ≡ length (recordsOf log) → length codes < n → AnswersLog m log codes (record { reply = Refused 13; monitor = m }) codes
+pub run-refused : (m : Monitor) (log codes : List ℕ) → leb (length (recordsOf log)) (length codes) ≡ false → AnswersLog m log codes (record { reply = Refused 13; monitor = m }) codes
 unfolding AnswersLog AnswersLogBy roomFor replyOf
-run-refused m log codes n e l =
-    let room : leb (length (recordsOf log)) (length codes) ≡ false = lt-leb (length (recordsOf log)) (length codes) (omega arith) in
-    rw room (refl, refl, refl)
+run-refused m log codes room = rw room (refl, refl, refl)

@@ -2,7 +2,7 @@
 // planned, judged by the rules and made, then the rest of its change; what is refused or inhibited has stored nothing. Each function says what it does of the monitor that the arrays make up.
 use crate::Answer;
 use crate::logs::code;
-use crate::logs::records_in;
+use crate::logs::has_room;
 use logreader::end_after;
 use records::Record;
 use records::read;
@@ -256,7 +256,7 @@ pub fn run_in(
 ) -> Reply
     ensures { λ r. ⌜ AnswersLog (monitorBefore words descriptors names sets fields) (now (log .entry)) (now (codes .entry)) (record { reply = r; monitor = monitorAfter words descriptors names sets fields }) (now (codes .exit)) ⌝ }
 {
-    if codes.len() < records_in(log) {
+    if !has_room(log, codes.len()) {
         return Reply::Refused(13);
     }
     let mut at = 0usize;

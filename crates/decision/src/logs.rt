@@ -2,13 +2,14 @@
 use crate::Answer;
 use logreader::end_after;
 ghost use mathlib.Core.Path.{_≡_};
+ghost use lib.Dec.{leb};
 ghost use lib.ListN.{length};
 ghost use Rattle.flow.specs.Records.{recordsOf};
 ghost use Rattle.decision.specs.Answers.{wordOf};
 ghost use Rattle.decision.specs.Logs.{codeOf};
 
 // The number of records in a log.
-pub fn records_in(log: &[u8]) -> usize
+fn records_in(log: &[u8]) -> usize
     ensures { λ r. ⌜ r ≡ length (recordsOf (now (log .entry))) ⌝ }
 {
     let mut at = 0usize;
@@ -18,6 +19,17 @@ pub fn records_in(log: &[u8]) -> usize
         n += 1;
     }
     n
+}
+
+// Whether there is room for one code a record. A record is at least three bytes long, but for the last; where that is not enough to know,
+// they are counted.
+pub fn has_room(log: &[u8], room: usize) -> bool
+    ensures { λ r. ⌜ r ≡ leb (length (recordsOf (now (log .entry)))) room ⌝ }
+{
+    if log.len() / 3 < room {
+        return true;
+    }
+    records_in(log) <= room
 }
 
 // An answer as a number.

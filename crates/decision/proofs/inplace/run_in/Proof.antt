@@ -1,7 +1,9 @@
 -- `run_in` answers record after record. Where a record ends and that its code has room is known of every turn (LogLaws).
 use Prim.Native.Nat.{_*_, _-_, _<_, _^_}
 use native.Mathlib.Omega.{arith}
+use mathlib.Core.Path.{sym, _∙_}
 use lib.ListN.{length}
+use borrow.Author.Tests.{not-true, not-false, leb-true}
 use Rattle.decision.specs.View.{monitor}
 use Rattle.decision.proofs.LogLaws.{end-past, end-within, Running, run-start, run-room, run-more, run-end, run-refused}
 use borrow.Author.Needs.{needs}
@@ -26,8 +28,8 @@ run-in-spec =
     tie.close
     (tie.spec Inv-loop μ-loop
     (λ c κs. search needs)
-    (λ c. run-refused _ _ _ _ (c .before .records-in .ensures) (c .if1 .taken))
-    (λ c. (run-start _ _ _ (omega (arith, c .before .records-in .ensures)), search needs))
+    (λ c. run-refused _ _ _ (sym (c .before .has-room .ensures) ∙ not-true _ (c .if1 .taken)))
+    (λ c. (run-start _ _ _ (leb-true _ _ (sym (c .before .has-room .ensures) ∙ not-false _ (c .if1 .left))), search needs))
     (λ c κs. search needs)
     (λ c. omega (arith, end-past)) (λ c. omega (arith, end-past)) (λ c. omega (arith, end-within))
     (λ c κs. search needs) (λ c κs. search needs)
