@@ -1,6 +1,5 @@
 -- The state after a change: what its containers hold once what is not in use is emptied.
 use Prim.Native.Nat.{ℕ, _<_}
-use native.Mathlib.Omega.{arith}
 use mathlib.Core.Path.{_≡_, refl, sym, ap, _∙_}
 use mathlib.Core.Bool.{Bool, true, false, not, _&&_}
 use mathlib.Core.List.{List}
@@ -9,8 +8,8 @@ use lib.ListN.{getD}
 use borrow.Author.Tests.{eqb-true, eqb-false}
 use Rattle.sets.specs.Sets.{has}
 use Rattle.sets.proofs.Members.{none-has}
-use Rattle.flow.specs.Box.{Tables, State, itemsOf, holds, feedersOf, feeds}
-use Rattle.flow.specs.Links.{linked, reach, given, mapped, used}
+use Rattle.flow.specs.Box.{Tables, State, itemsOf, holds}
+use Rattle.flow.specs.Links.{linked, reach, given, used}
 use Rattle.flow.specs.Calls.{Flow, still, gift, arrival, exchange, copy, clear, Change, moved, ended, itemsAfter, after}
 use Rattle.flow.proofs.Bools.{and-false-l, by, no-both, choice, chosen-r}
 use Rattle.flow.proofs.TableLaws.{table-at}

@@ -9,7 +9,7 @@ use lib.ListN.{getD, length, take, drop, replicate, set, length-append, length-d
 use lib.Seq.{getD-take, getD-drop, getD-append-add, getD-set-other, length-take-le}
 use borrow.Author.Tests.{ltb-true}
 use Rattle.sets.specs.Sets.{has, without}
-use Rattle.flow.specs.Box.{closed, slot, descriptorCount, Tables, descriptor, isLive}
+use Rattle.flow.specs.Box.{closed, slot, descriptorCount, Tables, isLive}
 use Rattle.flow.specs.Calls.{Kind, start, openName, create, pipe, device, dup, close, read, write, truncate, mapRead, mapBoth, unmap, unlink, rename, link, fork, exit, label, kindNumber, Call, isKind, withLive, withDescriptors, withNames, withLinks, putBlock, block, tablesBy}
 use Rattle.flow.specs.Refusals.{ranges, inRange, dead}
 use Rattle.flow.proofs.Bools.{by, no-both}

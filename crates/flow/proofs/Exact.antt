@@ -18,7 +18,7 @@ use Rattle.flow.specs.Verdicts.{Outcome, refuses, loads, allows, inhibit
 use Rattle.flow.specs.Queries.{Reply, refuse, result, itemsQuery}
 use Rattle.flow.specs.Contents.{Step, entry, memory, Machine, flowed, changed, contentsAfter, stepContents, stepState, stepAt, stateAt, runAt, labelOf, itemLabelled}
 use Rattle.flow.specs.Exact.{DifferOnlyAt, Exact}
-use Rattle.flow.proofs.Bools.{or-false-i, by, no-both, choice, choices, chosen-r}
+use Rattle.flow.proofs.Bools.{or-false-i, no-both, choice, choices, chosen-r}
 use Rattle.flow.proofs.Moves.{movedIn, Fit, given-at, source, source-copy, source-other, copy-at, clear-at}
 use Rattle.flow.proofs.After.{after-items}
 use Rattle.flow.proofs.Outcomes.{Made, Sound}

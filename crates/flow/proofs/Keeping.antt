@@ -8,8 +8,7 @@ use mathlib.Core.Option.{Option, none}
 use lib.ListN.{getD, length, replicate, length-append, length-replicate, getD-replicate}
 use Rattle.sets.specs.Sets.{has}
 use Rattle.sets.proofs.Members.{none-has}
-use Rattle.flow.specs.Box.{isFile, isTarget, closed, slot, Rule, State, noTables, fresh, itemsOf, holds, isLive, feedersOf, feeds, descriptor}
-use Rattle.flow.specs.Links.{linked, mapped, used}
+use Rattle.flow.specs.Box.{isFile, isTarget, closed, slot, Rule, State, noTables, fresh, itemsOf, holds, isLive, feeds, descriptor}
 use Rattle.flow.specs.Calls.{Call, Change, after}
 use Rattle.flow.specs.Rules.{broken, firstBroken, lowestBroken}
 use Rattle.flow.specs.Records.{callOf}

@@ -1,21 +1,21 @@
 -- What is known of a record that was not refused.
 use Prim.Native.Nat.{ℕ, suc, _<_}
 use native.Mathlib.Omega.{arith}
-use mathlib.Core.Path.{_≡_, refl, ap, _∙_}
+use mathlib.Core.Path.{_≡_, refl, ap}
 use mathlib.Core.Logic.{inl}
-use mathlib.Core.Bool.{Bool, true, false, not, _&&_}
+use mathlib.Core.Bool.{Bool, true, false, _&&_}
 use mathlib.Core.List.{List, _∷_}
 use mathlib.Core.Option.{Option, none, some}
-use lib.Dec.{ltb, eqb}
+use lib.Dec.{eqb}
 use lib.ListN.{length}
 use borrow.Author.Tests.{ltb-true, leb-false, not-false, eqb-true}
-use Rattle.flow.specs.Lists.{Test, firstThat, isNone}
+use Rattle.flow.specs.Lists.{firstThat, isNone}
 use Rattle.flow.specs.Box.{containerOf, isTarget, Rule, Tables, State, descriptor}
 use Rattle.flow.specs.Links.{isFed, used}
-use Rattle.flow.specs.Calls.{Kind, start, openName, create, pipe, device, dup, close, read, write, truncate, mapRead, mapBoth, unmap, unlink, rename, link, fork, exit, label, kindNumber, Call, isKind, Flow, still, gift, arrival, clear, tablesBy, flowBy, Change, change, after}
+use Rattle.flow.specs.Calls.{Kind, start, openName, create, pipe, device, dup, close, read, write, truncate, mapRead, mapBoth, unmap, unlink, rename, link, fork, exit, label, kindNumber, Call, isKind, Flow, still, arrival, clear, flowBy, Change, change, after}
 use Rattle.flow.specs.Rules.{broken, Numbered, lowestBroken}
 use Rattle.flow.specs.Records.{Reading, unreadable, aCall, aRule, reading, callRead, callOf}
-use Rattle.flow.specs.Refusals.{inRange, ranges, fieldsFit, itemsFit, substituteFits, sameItems, fieldTests, callTests, ruleTests}
+use Rattle.flow.specs.Refusals.{inRange, ranges, fieldsFit, itemsFit, substituteFits, fieldTests, callTests, ruleTests}
 use Rattle.flow.specs.Verdicts.{Outcome, refuses, loads, allows, inhibits, modifies, diversion, mayDivert, breaksNone, stopped, verdictBy, verdict, outcomeOfCall, outcomeOfRule, outcomeOf, outcome}
 use Rattle.flow.specs.Contents.{labelOf}
 use Rattle.flow.specs.Kept.{wellFormed, allWellFormed}

@@ -5,11 +5,11 @@ use native.Mathlib.Nat.{not-suc-le-zero}
 use native.Mathlib.Decide.{ℕ-discrete}
 use mathlib.Core.Path.{_≡_, refl, sym, ap, _∙_}
 use mathlib.Core.Logic.{⊎-elim, _↔_}
-use mathlib.Core.Bool.{Bool, true, false, not, _&&_, _||_}
+use mathlib.Core.Bool.{true, _&&_, _||_}
 use lib.Dec.{ltb, leb, eqb}
 use borrow.Author.Tests.{ltb-true, leb-true, eqb-true, eqb-false, eq-eqb, lt-ltb, le-leb}
-use Rattle.sets.specs.Sets.{has, only, _∪_, _∩_, count}
-use Rattle.sets.proofs.Members.{union-has, inter-has, only-has, none-has, union-lt, only-lt, set-ext, some-member, count-part, count-le}
+use Rattle.sets.specs.Sets.{has, only, _∪_, count}
+use Rattle.sets.proofs.Members.{union-has, only-has, none-has, union-lt, only-lt, set-ext, count-part, count-le}
 use Rattle.flow.specs.Box.{isProcess, containerOf, Tables, feedersOf, feeds}
 use Rattle.flow.specs.Links.{linked, Reaches, here, onward, meets, through, throughEach, closure, reach}
 use Rattle.flow.proofs.Meets.{meets-of, meets-at}

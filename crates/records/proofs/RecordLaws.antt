@@ -3,10 +3,9 @@ use Prim.Native.Nat.{ℕ, zero, suc, _+_, _*_, _-_, _≤_, _<_}
 use native.Mathlib.Nat.{le-refl}
 use native.Mathlib.Omega.{arith}
 use mathlib.Core.Path.{_≡_, refl, sym, ap, ap₂, _∙_}
-use mathlib.Core.Bool.{Bool, true, false, not, _&&_}
+use mathlib.Core.Bool.{Bool, true, false}
 use mathlib.Core.List.{List, [], _∷_}
 use mathlib.Core.Option.{Option, none, some}
-use lib.Dec.{eqb}
 use lib.ListN.{length, take, drop, length-drop}
 use lib.Seq.{take-all, take-length, drop-length, getD-take, length-take-le, take-add, drop-at, take-take}
 use borrow.Author.Tests.{ltb-false, le-ltb}
@@ -14,7 +13,7 @@ use Rattle.flow.specs.Lists.{firstThat}
 use Rattle.flow.specs.Box.{State}
 use Rattle.flow.specs.Records.{byteAt, tagOf, statedLength, recordLength, valueOf, cutShort, knownTag, wrongLength, frameTests, contentOf, readingBy, reading, recordsIn, recordsOf}
 use Rattle.flow.specs.Verdicts.{outcomeOf, outcome, answer, next, answerAll, runLog}
-use Rattle.flow.proofs.Bools.{choice, choices, chosen-l, chosen-r}
+use Rattle.flow.proofs.Bools.{choice, choices}
 use Rattle.records.specs.Reading.{extentOf}
 use Rattle.records.proofs.Frames.{framed}
 

@@ -4,7 +4,7 @@ use native.Mathlib.Omega.{arith}
 use native.Mathlib.Nat.{not-suc-le-zero, le-of-suc-le-suc}
 use native.Mathlib.Numerals.{add-one}
 use mathlib.Core.Path.{_≡_, refl, sym, ap, _∙_}
-use mathlib.Core.Bool.{true, _||_, or-assoc, or-true}
+use mathlib.Core.Bool.{true, or-assoc, or-true}
 use mathlib.Core.List.{List, [], _∷_}
 use lib.Bits.{or-lt, or-comm as bits-comm, or-zero-l}
 use lib.ListN.{length, getD, take}

@@ -1,20 +1,20 @@
 -- The search for the reach: each process is gone through once.
-use Prim.Native.Nat.{ℕ, _+_, _/_, _%_, _^_, _<_}
+use Prim.Native.Nat.{ℕ, _/_, _%_, _^_, _<_}
 use native.Mathlib.Omega.{arith}
 use native.Mathlib.Nat.{mod-eq-of-lt}
 use native.Mathlib.Decide.{ℕ-discrete}
 use mathlib.Core.Path.{_≡_, refl, sym, ap, _∙_}
-use mathlib.Core.Bool.{Bool, true, false, not, _&&_, _||_}
+use mathlib.Core.Bool.{Bool, true, false, _&&_}
 use mathlib.Core.List.{List}
 use lib.Dec.{eqb, ltb}
 use lib.ListN.{getD, length}
 use lib.Pow.{shr-shr}
-use borrow.Author.Tests.{lt-ltb, eqb-true, eq-eqb, ne-eqb}
+use borrow.Author.Tests.{lt-ltb, eqb-true, eq-eqb}
 use Rattle.sets.specs.Sets.{has, only, bit, thoseFrom, those, without, _∪_, _∩_, count, lowest, unionOf}
-use Rattle.sets.proofs.Members.{union-has, inter-has, inter-lt, only-has, none-has, those-has, without-lt, without-le, without-part, without-other, union-lt, only-lt, has-below, lowest-has, count-less, member, turn-below}
+use Rattle.sets.proofs.Members.{union-has, inter-has, inter-lt, only-has, none-has, those-has, without-le, without-part, without-other, union-lt, only-lt, has-below, count-less, member, turn-below}
 use Rattle.sets.proofs.Unions.{none-union, unionOf-part}
 use Rattle.flow.specs.Box.{containerOf, feedersOf, feeds}
-use Rattle.flow.specs.Links.{linked, Reaches, here, onward, meets, reach}
+use Rattle.flow.specs.Links.{linked, Reaches, here, onward, reach}
 use Rattle.flow.proofs.Bools.{or-elim, or-l, or-r, and-l, and-r, and-i, by, no-both, or-false-l, or-false-r, or-false-i, and-false-l}
 use Rattle.flow.proofs.Reach.{link-cases, link-in, link-out, is-reach}
 use Rattle.flow.proofs.Meets.{meets-of, meets-at}

@@ -1,21 +1,18 @@
 -- Loops that take the lowest member of a set in each turn, until none is left: gifts, and emptying.
-use Prim.Native.Nat.{ℕ, suc, _+_, _-_, _*_, _/_, _%_, _<_, _^_}
+use Prim.Native.Nat.{ℕ, _-_, _%_, _<_, _^_}
 use native.Mathlib.Omega.{arith}
-use native.Mathlib.Nat.{mod-eq-of-lt}
 use native.Mathlib.Decide.{ℕ-discrete}
 use mathlib.Core.Path.{_≡_, refl, sym, ap, ap₂, subst, _∙_}
-use mathlib.Core.Logic.{⊎-elim}
-use mathlib.Core.Bool.{Bool, true, false, not, _&&_, and-comm}
+use mathlib.Core.Bool.{Bool, true, false}
 use mathlib.Core.List.{List}
-use lib.Dec.{eqb}
 use lib.ListN.{getD, set, length, length-set}
 use lib.Seq.{getD-set-same, getD-set-other}
 use borrow.Author.Tests.{eq-eqb, ne-eqb}
-use Rattle.sets.specs.Sets.{has, only, those, without, lowest, count, _∪_}
+use Rattle.sets.specs.Sets.{has, only, without, lowest, _∪_}
 use Rattle.sets.proofs.Members.{itself, without-lt, none-has, only-has}
 use Rattle.flow.specs.Lists.{table}
 use Rattle.flow.specs.Links.{given}
-use Rattle.flow.proofs.Bools.{and-l, no-both, chosen-l, chosen-r}
+use Rattle.flow.proofs.Bools.{chosen-l, chosen-r}
 use Rattle.flow.proofs.TableLaws.{table-at, table-length, is-table}
 use Rattle.store.specs.Maps.{cleared}
 pub use Rattle.sets.proofs.Members.{without-at, without-other, member, turn-below, turn-fewer}

@@ -1,7 +1,7 @@
 -- A store in one part of the words leaves the others.
 use Prim.Native.Nat.{ℕ, _+_, _-_, _<_, _≤_}
 use native.Mathlib.Omega.{arith}
-use mathlib.Core.Path.{_≡_, refl, sym, ap, _∙_}
+use mathlib.Core.Path.{_≡_, sym, ap, _∙_}
 use mathlib.Core.List.{List}
 use lib.ListN.{length, getD, set, take, drop}
 use lib.Seq.{take-set-lt, take-set-le, drop-set-lt, drop-set-add, getD-set-same, getD-set-other, set-out}

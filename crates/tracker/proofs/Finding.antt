@@ -3,13 +3,13 @@ use Prim.Native.Nat.{ℕ, _%_, _^_, _<_}
 use native.Mathlib.Omega.{arith}
 use native.Mathlib.Nat.{mod-eq-of-lt}
 use native.Mathlib.Decide.{ℕ-discrete}
-use mathlib.Core.Path.{_≡_, refl, sym, ap, ap₂, subst, _∙_}
+use mathlib.Core.Path.{_≡_, refl, sym, ap, ap₂, _∙_}
 use mathlib.Core.Bool.{Bool, true, false, not, _&&_, _||_, or-false, and-comm}
 use mathlib.Core.List.{List}
 use lib.Dec.{eqb}
 use lib.ListN.{getD, length}
 use borrow.Author.Tests.{eqb-true, eq-eqb, ne-eqb}
-use Rattle.sets.specs.Sets.{has, only, those, without, _∪_, lowest}
+use Rattle.sets.specs.Sets.{has, only, without, _∪_, lowest}
 use Rattle.sets.proofs.Members.{union-has, only-has, none-has, those-has, those-lt, only-lt, set-ext, without-lt, without-at, without-other, turn-below, member}
 use Rattle.flow.specs.Box.{Tables, isFile, closed}
 use Rattle.flow.specs.Links.{isFed, used}

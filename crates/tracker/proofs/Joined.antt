@@ -25,7 +25,7 @@ use Rattle.flow.proofs.Rows.{now-live}
 use Rattle.flow.proofs.Use.{used-process}
 use Rattle.flow.proofs.Accepted.{Accepted, fits-a}
 use Rattle.store.specs.declared.Plan.{Plan}
-use Rattle.store.specs.Maps.{Maps, withItems, changed, view, cleared, itemsBy}
+use Rattle.store.specs.Maps.{Maps, withItems, view, cleared, itemsBy}
 use Rattle.store.proofs.Words.{by-length}
 use Rattle.tracker.specs.declared.Call.{Call}
 use Rattle.tracker.specs.Rows.{asked, callIn, tablesAt, Passes}

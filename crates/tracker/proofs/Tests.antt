@@ -8,7 +8,7 @@ use Rattle.flow.specs.Lists.{_⇒_, firstThat, refusalFrom}
 use Rattle.flow.specs.Box.{Tables}
 use Rattle.flow.specs.Calls.{Kind}
 use Rattle.flow.specs.Records.{kindOf, callBy, callFrom}
-use Rattle.flow.specs.Refusals.{dead, taken, missing, callTests}
+use Rattle.flow.specs.Refusals.{taken, missing, callTests}
 use Rattle.tracker.specs.declared.Call.{Call}
 use Rattle.tracker.specs.Rows.{callAt, callIn, known, fitsAt, deadAt, takenAt, missingAt, sameAt, noFileAt}
 

@@ -1,6 +1,6 @@
 -- `any_low`: while the flag is 0, no file stands before entry i.
 use Prim.Native.Nat.{_-_, _≤_}
-use mathlib.Core.Path.{_≡_, refl, ap, _∙_}
+use mathlib.Core.Path.{_≡_, refl}
 use lib.ListN.{length, take}
 use lib.Seq.{take-all}
 use Rattle.store.specs.Maps.{filesIn}

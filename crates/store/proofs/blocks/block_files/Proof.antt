@@ -1,6 +1,6 @@
 -- `block_files` goes through a part of the descriptors.
 use native.Mathlib.Omega.{arith}
-use mathlib.Core.Path.{_≡_, sym, ap, _∙_}
+use mathlib.Core.Path.{_≡_, sym, ap}
 use lib.ListN.{length}
 use Rattle.sets.specs.Sets.{_∪_}
 use Rattle.store.specs.Maps.{filesIn}

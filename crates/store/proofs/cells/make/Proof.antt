@@ -1,6 +1,4 @@
 -- `make` empties and gives.
-use mathlib.Core.Path.{_∙_}
-use native.Mathlib.Omega.{arith}
 use Rattle.store.specs.Maps.{itemsBy}
 use borrow.Author.Needs.{needs}
 use Rattle.store.proofs.cells.make.Statement.{statement}

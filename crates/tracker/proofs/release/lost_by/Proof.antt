@@ -1,7 +1,7 @@
 -- `lost_by` is the table of what a call may end the use of.
 use Prim.Native.Nat.{ℕ}
 use native.Mathlib.Omega.{arith}
-use mathlib.Core.Path.{refl, _∙_}
+use mathlib.Core.Path.{refl}
 use mathlib.Core.List.{[], _∷_}
 use mathlib.Core.Option.{Option}
 use Rattle.sets.proofs.Unions.{none-union, union-none}

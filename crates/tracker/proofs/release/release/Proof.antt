@@ -1,7 +1,5 @@
 -- `release` empties what the entry leads to, then the others.
 use mathlib.Core.Path.{ap, _∙_}
-use mathlib.Core.List.{List}
-use Prim.Native.Nat.{ℕ}
 use Rattle.store.specs.Maps.{view, withItems, fileSet}
 use Rattle.tracker.proofs.Finding.{cleared-join, gone-both}
 use borrow.Author.Needs.{needs}
