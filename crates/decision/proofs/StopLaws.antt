@@ -1,16 +1,17 @@
 -- A call that a rule stops: inhibited, or diverted to the substitute.
-use Prim.Native.Nat.{ℕ, _+_, _%_}
+use Prim.Native.Nat.{ℕ, _+_, _%_, _<_, _≤_}
 use native.Mathlib.Omega.{arith}
 use native.Mathlib.Nat.{mod-eq-of-lt}
 use mathlib.Core.Path.{_≡_, refl, sym, ap, ap₂, subst, _∙_}
 use mathlib.Core.Bool.{Bool, true, false, not, _&&_}
 use mathlib.Core.List.{List}
 use mathlib.Core.Option.{some}
-use lib.Dec.{eqb}
+use lib.Dec.{eqb, ltb}
 use lib.ListN.{getD, length}
-use borrow.Author.Tests.{not-true, not-false}
+use borrow.Author.Tests.{not-true, not-false, lt-ltb, le-ltb}
 use Rattle.flow.specs.Box.{containerOf, Rule}
 use Rattle.flow.specs.Links.{reach, used}
+use Rattle.flow.proofs.Bools.{chosen-l, chosen-r}
 use Rattle.flow.specs.Calls.{Call, after}
 use Rattle.flow.specs.Verdicts.{diversion}
 use Rattle.store.specs.declared.Plan.{Plan}
@@ -24,9 +25,18 @@ use Rattle.rules.specs.Judging.{Judged}
 use Rattle.decision.specs.declared.Monitor.{Monitor}
 use Rattle.decision.specs.declared.Answer.the-variants.{Inhibit, Modify}
 use Rattle.decision.specs.View.{maps, monitor, view}
-use Rattle.decision.specs.Answers.{AnswersStopped}
+use Rattle.decision.specs.Answers.{stoppedBy, AnswersStopped}
 use Rattle.decision.proofs.AnswerLaws.{inhibited-as, modified-as}
 use Rattle.decision.proofs.VerdictLaws.{judged-none, judged-some, no-write, not-used, diverted, diversion-broken, gift-items, exactly}
+
+-- ---- the answer, by where the call went
+pub diverted-by : (k c : ℕ) → c < 64 → stoppedBy k c ≡ Modify k c
+unfolding stoppedBy
+diverted-by k c h = chosen-l (ltb c 64) (Modify k c) (Inhibit k) (lt-ltb c 64 h)
+
+pub inhibited-by : (k c : ℕ) → 64 ≤ c → stoppedBy k c ≡ Inhibit k
+unfolding stoppedBy
+inhibited-by k c h = chosen-r (ltb c 64) (Modify k c) (Inhibit k) (le-ltb c 64 h)
 
 module _ (m : Monitor) (b : Bytes) (q : Call) (e : callIn b ≡ some q) (k : ℕ) where
   abbrev rule : Rule
@@ -45,9 +55,12 @@ module _ (m : Monitor) (b : Bytes) (q : Call) (e : callIn b ≡ some q) (k : ℕ
 
     module _ (n : ℕ) (f : n ≡ actionAt (m .fields) k) (d : not (eqb n 1 && eqb (b .kind) 9) ≡ false) (h : not y ≡ false) (long : length (m .words) ≡ 97)
         (x : ℕ) (ix : x ≡ getD (itemsIn (m .words)) (8 + b .process) 0) (r : ℕ) (ir : r ≡ reach (maps m .tables) (c % 64)) (plan : Plan) (ip : plan ≡ giving x r) (j : ℕ) (js : Judged (itemsIn (m .words)) plan (m .sets) (m .fields) j) where
-      to-small : c % 64 ≡ rule .substitute
+      small : c < 64
       unfolding substituteAt
-      to-small = mod-eq-of-lt (rw g (omega arith)) ∙ g
+      small = rw g (omega arith)
+
+      to-small : c % 64 ≡ rule .substitute
+      to-small = mod-eq-of-lt small ∙ g
 
       plan-is : plan ≡ giving (getD (itemsIn (m .words)) (containerOf (b .process)) 0) (reach (maps m .tables) (rule .substitute))
       plan-is = ip ∙ ap₂ giving ix (ir ∙ ap (reach (maps m .tables)) to-small)
@@ -76,8 +89,9 @@ module _ (m : Monitor) (b : Bytes) (q : Call) (e : callIn b ≡ some q) (k : ℕ
       moved w v = ap (λ (s : Maps). record { tables = s .tables; items = s .items; rules = view m .rules }) (v ∙ ap (withItems (maps m)) (sym items-are))
 
       pub stop-diverts : j ≡ countOf (m .fields) → (w : List ℕ) → mapsOf w (m .descriptors) (m .names) ≡ withItems (maps m) (itemsBy (maps m .items) plan)
-          → AnswersStopped m q k (record { answer = Modify k c; monitor = monitor w (m .descriptors) (m .names) (m .sets) (m .fields) })
+          → AnswersStopped m q k (record { answer = stoppedBy k c; monitor = monitor w (m .descriptors) (m .names) (m .sets) (m .fields) })
       stop-diverts t w v =
-          subst (λ (to : ℕ). AnswersStopped m q k (record { answer = Modify k to; monitor = monitor w (m .descriptors) (m .names) (m .sets) (m .fields) })) (sym g)
+          rw (diverted-by k c small)
+          (subst (λ (to : ℕ). AnswersStopped m q k (record { answer = Modify k to; monitor = monitor w (m .descriptors) (m .names) (m .sets) (m .fields) })) (sym g)
           (modified-as m q k _ (rule .substitute) (diversion (view m) q rule)
-          (λ z. diverted m b q e k (eqb n 1) y acts d use-is (not-false y h) (judged-none m plan _ same-rules sees j js t z)) (moved w v) (judged-none m plan _ same-rules sees j js t))
+          (λ z. diverted m b q e k (eqb n 1) y acts d use-is (not-false y h) (judged-none m plan _ same-rules sees j js t z)) (moved w v) (judged-none m plan _ same-rules sees j js t)))

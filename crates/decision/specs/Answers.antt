@@ -1,11 +1,13 @@
 -- Document 01, What a record gets: the answers of the code.
 use Prim.Native.Nat.{ℕ}
 use mathlib.Core.Path.{_≡_}
+use mathlib.Core.Bool.{true, false}
 use mathlib.Core.Logic.{_↔_}
 use mathlib.Core.List.{List}
 use mathlib.Core.Option.{none, some}
+use lib.Dec.{ltb}
 use Rattle.flow.specs.Lists.{firstThat}
-use Rattle.flow.specs.Box.{ruleCount, fresh}
+use Rattle.flow.specs.Box.{containerCount, ruleCount, fresh}
 use Rattle.flow.specs.Calls.{Call}
 use Rattle.flow.specs.Rules.{lowestBroken}
 use Rattle.flow.specs.Records.{kindOf, Reading, aCall, callFrom, reading}
@@ -77,6 +79,10 @@ pub record Gives (m : Monitor) (q : Bytes) (k : ℕ) (words : List ℕ) : Type 0
   pub broken : (k ≡ ruleCount → ⊥) → k ≡ countOf (m .fields) → ⊥
 
 -- ---- a call that rule number k stops (01, What a record gets): diverted or inhibited
+-- its answer, by the container that it was diverted to, if it was
+unfoldable pub stoppedBy : ℕ → ℕ → Answer
+stoppedBy k c = elim (ltb c containerCount) [ true ↦ Modify k c | false ↦ Inhibit k ]
+
 pub record AnswersStopped (m : Monitor) (q : Call) (k : ℕ) (r : Answered) : Type 0 where
   pub unrefused : (n : ℕ) → r .answer ≡ Refused n → ⊥
   pub inhibited-kept : (n : ℕ) → r .answer ≡ Inhibit n → r .monitor ≡ m

@@ -17,7 +17,9 @@ use rules::stored::SEPARATE_TAG;
 use rules::stored::count;
 use sets::lengths;
 use store::cells::make_items;
+use store::limits::CONTAINERS;
 use store::limits::DEVICES;
+use store::limits::NONE;
 use store::lookups::in_use;
 use store::lookups::items;
 use store::numbers::Container;
@@ -41,7 +43,7 @@ ghost use Rattle.tracker.specs.Rows.{callIn, Passes};
 ghost use Rattle.rules.specs.Stored.{ruleFrom};
 ghost use Rattle.decision.specs.View.{monitor, monitorBefore, monitorAfter};
 ghost use Rattle.decision.specs.Logs.{AnswersLog};
-ghost use Rattle.decision.specs.Answers.{IsFresh, AnswersRecord, Answers, Gives, AnswersStopped};
+ghost use Rattle.decision.specs.Answers.{IsFresh, AnswersRecord, Answers, Gives, stoppedBy, AnswersStopped};
 
 const CONFINE_TAG: u8 = 0x13;
 
@@ -66,7 +68,7 @@ pub fn renew(
     *fields = [0u8; 129];
 }
 
-// A call that rule k stops: a write may go to the rule's substitute.
+// A call that rule k stops: a write may go to the rule's substitute. Answers the container that it went to, or 64.
 fn stop_in(
     words: &mut [u64; 97],
     descriptors: &[u8; 512],
@@ -75,26 +77,26 @@ fn stop_in(
     fields: &[u8; 129],
     q: Call,
     k: u8,
-) -> Answer
+) -> u8
     requires { ⌜ (k < ruleCount) × Passes (now words) (now descriptors) (now names) q ⌝ }
-    ensures { λ r. ⌜ ((x : Asked) → callIn q ≡ some x → AnswersStopped (monitorBefore words descriptors names sets fields) x k (record { answer = r; monitor = monitorAfter words descriptors names sets fields })) ⌝ }
+    ensures { λ r. ⌜ ((x : Asked) → callIn q ≡ some x → AnswersStopped (monitorBefore words descriptors names sets fields) x k (record { answer = stoppedBy k r; monitor = monitorAfter words descriptors names sets fields })) ⌝ }
 {
     lengths(words, names);
     let diverts = stored::action(fields, k) == DIVERT;
     if !(diverts & (q.kind == WRITE)) {
-        return Answer::Inhibit(k);
+        return NONE;
     }
     let c = stored::substitute(fields, k);
     if !in_use(words, descriptors, names, Container(c)) {
-        return Answer::Inhibit(k);
+        return NONE;
     }
     let own = DEVICES + q.process;
     let plan = giving(items(words, Container(own)), reach(words, Container(c)));
     if judge(words, plan, sets, fields) != count(fields) {
-        return Answer::Inhibit(k);
+        return NONE;
     }
     make_items(words, plan);
-    Answer::Modify(k, c)
+    c
 }
 
 // Judges what a call that is not refused gives, and makes it where no rule is broken. Answers the rule that stops it, or 32.
@@ -155,7 +157,11 @@ pub fn call_in(
     }
     let k = give_in(words, descriptors, names, sets, fields, q);
     if k != RULE_COUNT {
-        return stop_in(words, descriptors, names, sets, fields, q, k);
+        let c = stop_in(words, descriptors, names, sets, fields, q, k);
+        if c < CONTAINERS {
+            return Answer::Modify(k, c);
+        }
+        return Answer::Inhibit(k);
     }
     finish(words, descriptors, names, q);
     Answer::Allow

@@ -4,6 +4,7 @@ use lib.ListN.{length}
 use Rattle.decision.specs.declared.Monitor.{Monitor}
 use Rattle.decision.specs.View.{monitor}
 use Rattle.decision.proofs.CallLaws.{passes, refused-call, passes-still, allowed-call, stopped-call, stopped-lt, stopped-passes}
+use Rattle.decision.proofs.StopLaws.{diverted-by, inhibited-by}
 use borrow.Author.Needs.{needs}
 use Rattle.decision.proofs.inplace.call_in.Statement.{statement}
 use Rattle.decision.proofs.inplace.call_in.Tie as tie
@@ -29,12 +30,23 @@ stop-in-requires c κs =
 
 returns-2 : tie.Need-returns-2
 returns-2 c =
-    let c4 = c .before .before .before .before in
+    let t = c .before in
+    let c4 = t .before .before .before .before in
     let g = c4 .before in
     let r = g .before .before .before .before .before in
     let z = r .before .before .before .before in
     let s = z .before .before .before .before .before in
-    stopped-call (met s) (s .args .q) (long z) (named z) _ (r .refusal .ensures) (g .before .before .before .before .if1 .left) _ _ (g .give-in .ensures) (c4 .if2 .taken) _ (c .stop-in .ensures)
+    stopped-call (met s) (s .args .q) (long z) (named z) _ (r .refusal .ensures) (g .before .before .before .before .if1 .left) _ _ (g .give-in .ensures) (c4 .if2 .taken) _ (λ x e. rw (← diverted-by _ _ (c .if3 .taken)) (t .stop-in .ensures x e))
+
+returns-3 : tie.Need-returns-3
+returns-3 c =
+    let t = c .before in
+    let c4 = t .before .before .before .before in
+    let g = c4 .before in
+    let r = g .before .before .before .before .before in
+    let z = r .before .before .before .before in
+    let s = z .before .before .before .before .before in
+    stopped-call (met s) (s .args .q) (long z) (named z) _ (r .refusal .ensures) (g .before .before .before .before .if1 .left) _ _ (g .give-in .ensures) (c4 .if2 .taken) _ (λ x e. rw (← inhibited-by _ _ (c .if3 .left)) (t .stop-in .ensures x e))
 
 finish-requires : tie.Need-finish-requires
 finish-requires c κs =
@@ -45,8 +57,8 @@ finish-requires c κs =
     let s = z .before .before .before .before .before in
     passes-still (met s) (s .args .q) (long z) (named z) _ (r .refusal .ensures) (g .before .before .before .before .if1 .left) _ _ (g .give-in .ensures) (c3 .if2 .left)
 
-returns-3 : tie.Need-returns-3
-returns-3 c =
+returns-4 : tie.Need-returns-4
+returns-4 c =
     let c4 = c .before .before .before .before in
     let g = c4 .before in
     let r = g .before .before .before .before .before in
@@ -60,4 +72,4 @@ call-in-spec =
     (tie.spec (λ c κs. search needs) (λ c κs. search needs)
     (λ c. refused-call _ _ _ (c .before .refusal .ensures) (c .if1 .taken))
     (λ c κs. let c3 = c .before .before .before in passes _ _ _ _ _ (c3 .before .refusal .ensures) (c3 .if1 .left))
-    stop-in-requires returns-2 finish-requires returns-3)
+    stop-in-requires returns-2 returns-3 finish-requires returns-4)

@@ -4,6 +4,7 @@ use mathlib.Core.Path.{_≡_, sym, _∙_}
 use lib.ListN.{length}
 use Rattle.tracker.proofs.Facts.{process-lt}
 use Rattle.decision.specs.View.{monitor}
+use Rattle.decision.specs.Answers.{stoppedBy}
 use Rattle.decision.proofs.StopLaws.{stop-no-write, stop-not-used, stop-broken, stop-diverts}
 use borrow.Author.Needs.{needs}
 use Rattle.decision.proofs.inplace.stop_in.Statement.{statement}
@@ -13,6 +14,7 @@ long : (c : tie.After-lengths) → length (c .before .before .before .before .ar
 long c = search needs
 
 returns : tie.Need-returns
+unfolding stoppedBy
 returns c =
     let c2 = c .before .before in
     let c7 = c2 .before .before .before .before .before in
@@ -20,6 +22,7 @@ returns c =
     λ x e. stop-no-write (monitor (a .words .now) (a .descriptors .now) (a .names .now) (a .sets .now) (a .fields .now)) (a .q) x e (a .k) _ (c2 .action .ensures) (c .if1 .taken)
 
 returns-2 : tie.Need-returns-2
+unfolding stoppedBy
 returns-2 c =
     let c1 = c .before in
     let c3 = c1 .before .before in
@@ -34,6 +37,7 @@ add-own c =
     omega (arith, process-lt (c12 .pre .1))
 
 returns-3 : tie.Need-returns-3
+unfolding stoppedBy
 returns-3 c =
     let c1 = c .before in
     let c2 = c1 .before in
