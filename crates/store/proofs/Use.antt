@@ -1,17 +1,20 @@
 -- What stands in a table, by a flag in a byte, and links as sets.
-use Prim.Native.Nat.{ℕ, zero, suc, _+_, _≤_, _<_}
+use Prim.Native.Nat.{ℕ, zero, suc, _+_, _%_, _^_, _≤_, _<_}
 use native.Mathlib.Omega.{arith}
 use native.Mathlib.Numerals.{add-one}
+use native.Mathlib.Nat.{mod-eq-of-lt}
+use native.Mathlib.Decide.{decLt}
 use mathlib.Core.Path.{_≡_, refl, sym, ap, ap₂, _∙_}
-use mathlib.Core.Bool.{Bool, true, false, not, _||_, or-assoc, or-comm}
+use mathlib.Core.Bool.{Bool, true, false, not, _&&_, _||_, or-assoc, or-comm, and-comm}
 use mathlib.Core.List.{List}
 use lib.Bits.{bitOr}
-use lib.Dec.{eqb}
+use lib.Dec.{eqb, ltb}
+use borrow.Author.Tests.{lt-ltb, le-ltb}
 use lib.ListN.{length, getD, take}
 use lib.Seq.{take-length}
 use mir.Val.{boolByte}
 use Rattle.sets.specs.Sets.{has, _∪_, unionOf}
-use Rattle.sets.proofs.Members.{union-has, none-has, eqb-sym}
+use Rattle.sets.proofs.Members.{union-has, none-has, past-has, eqb-sym}
 use Rattle.sets.proofs.Unions.{all-more, unionOf-more}
 use Rattle.flow.specs.Lists.{someBelow, isIn}
 use Rattle.flow.specs.Box.{Tables, feedersOf, feeds}
@@ -58,3 +61,11 @@ module _ (t : Tables) (c : ℕ) (k : length (t .fed) ≡ 16) where
   mapped-has h =
       union-has (unionOf (t .feeders)) (unionOf (t .fed)) c ∙ ap₂ _||_ (unionOf-has (t .feeders) c h) (unionOf-has (t .fed) c k)
       ∙ sym (some-or 16 (λ p. has (getD (t .feeders) p 0) c) (λ p. has (getD (t .fed) p 0) c))
+
+-- a member by the number as it comes round, where it is one of the 64
+pub member-of : (x c : ℕ) → x < 2 ^ 64 → (has x (c % 64) && ltb c 64) ≡ has x c
+member-of x c h = go (decLt c 64)
+  where
+    go : Dec (c < 64) → (has x (c % 64) && ltb c 64) ≡ has x c
+    go (yes l) = rw (mod-eq-of-lt l, lt-ltb c 64 l) (and-comm (has x c) true)
+    go (no l) = rw (le-ltb c 64 (omega arith), past-has x c h (omega arith)) (and-comm (has x (c % 64)) false)

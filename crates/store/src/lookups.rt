@@ -171,5 +171,5 @@ pub fn in_use(words: &[u64; 97], descriptors: &[u8; 512], names: &[u8; 128], c: 
     if stands(descriptors, c.0) {
         return true;
     }
-    holds(mapped(words), c.0)
+    sets::member(mapped(words), c.0) & (c.0 < CONTAINERS)
 }

@@ -152,10 +152,13 @@ pub quiet-given : (m : Maps) → length (m .items) ≡ 64 → (q : Call) → giv
 unfolding givenBy
 quiet-given m long q h = ap (withItems m) (sym (ap (itemsBy (m .items)) (quiet m q (kindOf (q .kind)) h) ∙ unmoved m long))
 
--- a call that passes still does once its gifts are made
+-- a call that passes still does while the tables are the same, so once its gifts are made
+pub passes-on : (w d n x : List ℕ) (q : Call) → Passes w d n q → view x d n .tables ≡ view w d n .tables → Passes x d n q
+passes-on w d n x q h e = record { none-holds = ap (λ (t : Tables). firstThat (callTests t (callIn q))) e ∙ h .none-holds }
+
 pub still-passes : (w d n x : List ℕ) (q : Call) → Passes w d n q → view x d n ≡ givenBy (view w d n) q → Passes x d n q
 unfolding givenBy
-still-passes w d n x q h e = record { none-holds = ap (λ (m : Maps). firstThat (callTests (m .tables) (callIn q))) e ∙ h .none-holds }
+still-passes w d n x q h e = passes-on w d n x q h (ap (λ (m : Maps). m .tables) e)
 
 -- ---- what is released
 lost-ended : (m : Maps) (x : Change) (lost : ℕ) → Ends (m .tables) (x .tables) lost

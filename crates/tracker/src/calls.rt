@@ -29,15 +29,15 @@ fn give(words: &mut [u64; 97], descriptors: &[u8; 512], names: &[u8; 128], q: Ca
     make_items(words, plan);
 }
 
-// Makes the rest of a call that is not refused, once its gifts are made: tables, what it empties, what it ends the use of.
+// Makes the rest of a call that is not refused, once its gifts are made: what it empties, its tables, what it ends the use of.
 pub fn finish(words: &mut [u64; 97], descriptors: &mut [u8; 512], names: &mut [u8; 128], q: Call)
     requires { ⌜ Passes (now words) (now descriptors) (now names) q ⌝ }
     ensures { λ _. ⌜ mapsAfter words descriptors names ≡ finished (mapsBefore words descriptors names) q ⌝ }
 {
     let lost = lost_by(words, descriptors, names, q);
     let emptied = emptied_by(words, descriptors, names, q);
-    change_tables(words, descriptors, names, q);
     empty_container(words, Container(emptied));
+    change_tables(words, descriptors, names, q);
     release(words, descriptors, names, lost);
 }
 

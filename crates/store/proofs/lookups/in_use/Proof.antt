@@ -1,11 +1,12 @@
 -- `in_use` is the test of document 01, by the kinds of container.
-use mathlib.Core.Path.{sym, _∙_}
-use mathlib.Core.Bool.{or-true}
+use mathlib.Core.Path.{sym, ap, _∙_}
+use mathlib.Core.Bool.{Bool, _&&_, or-true}
+use lib.Dec.{ltb}
 use borrow.Author.Tests.{lt-ltb}
 use Rattle.flow.specs.Box.{Tables, isDevice}
 use Rattle.store.specs.Maps.{view}
 use Rattle.flow.proofs.Use.{used-device, used-number, used-held}
-use Rattle.store.proofs.Use.{mapped-has}
+use Rattle.store.proofs.Use.{mapped-has, member-of}
 use Rattle.store.proofs.Parts.{part-length}
 use borrow.Author.Needs.{needs}
 use Rattle.store.proofs.lookups.in_use.Statement.{statement}
@@ -14,7 +15,8 @@ use Rattle.store.proofs.lookups.in_use.Tie as tie
 returns-5 : tie.Need-returns-5
 unfolding view
 returns-5 c =
-    let c1 = c .before in
+    let b = c .before in
+    let c1 = b .before in
     let c3 = c1 .before .before in
     let c4 = c3 .before in
     let c6 = c4 .before .before in
@@ -23,7 +25,8 @@ returns-5 c =
     let c13 = c9 .before .before in
     let q = c13 .args in
     let t : Tables = view (q .words .now) (q .descriptors .now) (q .names .now) .tables in
-    c .holds .ensures
+    ap (λ (a : Bool). a && ltb (q .c .0) 64) (b .member .ensures)
+    ∙ member-of (c1 .mapped .result) (q .c .0) (search needs)
     ∙ rw (c1 .mapped .ensures)
     (mapped-has t _ (part-length 81 16 _ (search needs)) (part-length 65 16 _ (search needs))
     ∙ sym (used-held t _ (c9 .if1 .left) ∙ rw (← c7 .stands .ensures, c6 .if3 .left, ← c4 .stands2 .ensures, c3 .if4 .left)))
