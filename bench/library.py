@@ -1,7 +1,6 @@
 """What a call costs through the library: by the hook, which copies the monitor, and in place."""
 
 import subprocess
-from pathlib import Path
 from typing import Dict, List, NamedTuple, Tuple
 
 from bench.counting import BadRun, Report, instructions, peak_of, prose, row, rule_of, say

@@ -13,7 +13,7 @@ from model import limits
 from model.limits import DESCRIPTORS, FILES, HEADER_LENGTH, ITEMS, NAMES, PROCESSES, RULE_LIMIT
 from model.limits import VALUE_LENGTHS, Kind, Refusal
 from model.logtext import FORMS, Form
-from model.records import CALL_FIELDS, RULE_ITEMS, Call, Rule, read_frame, stated_length
+from model.records import CALL_FIELDS, RULE_ITEMS, Rule, read_frame, stated_length
 from model.tracker import CONTAINER, DESCRIPTOR, LINK, NAME, NEW_THINGS, PROCESS, UNUSED, Fact
 from model.tracker import State, first_refusal, forbids, frame_facts, record_facts, refusals
 from tools.phrases import WORD_OF_KIND

@@ -105,11 +105,11 @@ few : (f : ℕ) (bytes : List ℕ) → length bytes ≤ f → 3 * length (record
 few zero = few-none
 few (suc f) = λ bytes l. few-step bytes f l (few f)
 
--- there is room for the answers
-
+-- a record has three bytes, but for the last
 pub few-records : (log : List ℕ) → 3 * length (recordsOf log) ≤ length log + 2
 few-records log = few (length log) log (omega arith)
 
+-- where a log's length says that there is room, there is
 pub room-enough : (log : List ℕ) (room : ℕ) → length log / 3 < room → true ≡ leb (length (recordsOf log)) room
 room-enough log room h = sym (le-leb (length (recordsOf log)) room (let z : 3 * length (recordsOf log) ≤ length log + 2 = few-records log in omega arith))
 

@@ -79,7 +79,7 @@ pub record Gives (m : Monitor) (q : Bytes) (k : ℕ) (words : List ℕ) : Type 0
   pub broken : (k ≡ ruleCount → ⊥) → k ≡ countOf (m .fields) → ⊥
 
 -- ---- a call that rule number k stops (01, What a record gets): diverted or inhibited
--- its answer, by the container that it was diverted to, if it was
+-- its answer, by the container c that it was diverted to; a number from 64 on is no container, and the call is inhibited
 unfoldable pub stoppedBy : ℕ → ℕ → Answer
 stoppedBy k c = elim (ltb c containerCount) [ true ↦ Modify k c | false ↦ Inhibit k ]
 

@@ -1,5 +1,6 @@
 // What a call, a rule, a record and a log get (document 01, What a record gets), on a monitor's arrays where they lie. What a call gives is
-// planned, judged by the rules and made, then the rest of its change; what is refused or inhibited has stored nothing. Each function says what it does of the monitor that the arrays make up.
+// planned, judged by the rules and made, then the rest of its change; what is refused or inhibited has stored nothing. Each function says
+// what it does of the monitor that the arrays make up.
 use crate::Answer;
 use crate::logs::code;
 use crate::logs::has_room;

@@ -13,9 +13,6 @@ ghost use Rattle.flow.specs.Box.{descriptorCount, closed};
 ghost use Rattle.flow.specs.Calls.{putBlock, block};
 ghost use Rattle.store.specs.Maps.{fileSet, filesIn};
 
-// The set of all files and pipes, 24 to 63.
-pub const FILES: u64 = 0xFFFF_FFFF_FF00_0000;
-
 // Closes all of a process's descriptors.
 pub fn close_block(descriptors: &mut [u8; 512], p: Process)
     ensures { λ _. ⌜ now (descriptors .exit) ≡ putBlock (now (descriptors .entry)) (p .0 % 16) (replicate descriptorCount closed) ⌝ }
@@ -41,7 +38,7 @@ pub fn copy_block(descriptors: &mut [u8; 512], from: Process, to: Process)
 }
 
 // The set of e alone where e is a file or pipe.
-pub fn file_set(e: u8) -> u64
+fn file_set(e: u8) -> u64
     ensures { λ r. ⌜ r ≡ fileSet e ⌝ }
 {
     if (FIRST_FILE <= e) & (e < CONTAINERS) {

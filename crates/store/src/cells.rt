@@ -10,7 +10,6 @@ use crate::limits::FEEDERS_AT;
 use crate::limits::ITEMS_AT;
 use crate::limits::NAMES;
 use crate::limits::PROCESSES;
-use crate::numbers::Container;
 use crate::numbers::Descriptor;
 use crate::numbers::Name;
 use crate::numbers::Process;
@@ -55,6 +54,7 @@ pub fn set_descriptor(descriptors: &mut [u8; 512], p: Process, d: Descriptor, e:
     set_entry(descriptors, BLOCK * (p.0 as usize) + d.0 as usize, e);
 }
 
+// The name is taken as it comes round: 128 is 0.
 pub fn set_name(names: &mut [u8; 128], n: Name, e: u8)
     ensures { λ _. ⌜ now (names .exit) ≡ set (now (names .entry)) (n .0 % 128) e ⌝ }
 {
@@ -92,12 +92,12 @@ fn empty_one_part(words: &mut [u64], c: u8)
     empty_at(&mut words[ITEMS_AT..FEEDERS_AT], c);
 }
 
-// Empties container c, where there is one of that number.
-pub fn empty_container(words: &mut [u64; 97], c: Container)
-    ensures { λ _. ⌜ ((d n : List ℕ) → let m = view (now (words .entry)) d n in view (now (words .exit)) d n ≡ withItems m (cleared (m .items) (containerSet (c .0)))) ⌝ }
+// Empties the container of number e, where there is one: a closed entry's has none.
+pub fn empty_container(words: &mut [u64; 97], e: u8)
+    ensures { λ _. ⌜ ((d n : List ℕ) → let m = view (now (words .entry)) d n in view (now (words .exit)) d n ≡ withItems m (cleared (m .items) (containerSet e))) ⌝ }
 {
     let cells: &mut [u64] = words;
-    if c.0 < CONTAINERS {
-        empty_one_part(cells, c.0);
+    if e < CONTAINERS {
+        empty_one_part(cells, e);
     }
 }

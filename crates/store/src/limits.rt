@@ -9,6 +9,9 @@ pub const FIRST_FILE: u8 = 24;
 // The set of those that a descriptor or a name may lead to: devices, files and pipes.
 pub const TARGETS: u64 = 0xFFFF_FFFF_FF00_00FF;
 
+// The set of all files and pipes, 24 to 63.
+pub const FILES: u64 = 0xFFFF_FFFF_FF00_0000;
+
 pub const PROCESSES: u8 = 16;
 
 pub const ALL_PROCESSES: u64 = 0xFFFF;

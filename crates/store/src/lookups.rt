@@ -1,4 +1,4 @@
-// Looking things up. Every number is taken as it is: past a table's end stands what the definitions say.
+// Looking things up. Every number but a name's in `name` is taken as it is: past a table's end stands what the definitions say.
 use crate::limits::BLOCK;
 use crate::limits::CLOSED;
 use crate::limits::CONTAINERS;

@@ -149,7 +149,7 @@ unfoldable pub lostAt : Tables → Call → Option Kind → ℕ
 lostAt t q none = 0
 lostAt t q (some k) = lostBy t (q .process) (q .a) (q .b) (q .c) k
 
--- the lost of an entry and a set
+-- the set that a Lost stands for
 abbrev pub lostSet : Lost → ℕ
 lostSet lost = fileSet (lost .entry) ∪ lost .held
 

@@ -12,6 +12,7 @@ use Rattle.flow.specs.Refusals.{ranges, fieldsFit, dead, taken, missing, sameDe
 use Rattle.store.specs.Maps.{view}
 use Rattle.tracker.specs.declared.Call.{Call}
 
+-- a call of five bytes, its kind known
 abbrev pub asked : Call → Kind → Asked
 asked q k = record { kind = k; process = q .process; a = q .a; b = q .b; c = q .c }
 

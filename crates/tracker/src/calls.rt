@@ -9,7 +9,6 @@ use crate::rows::refusal;
 use crate::tables::change_tables;
 use store::cells::empty_container;
 use store::cells::make_items;
-use store::numbers::Container;
 ghost use mathlib.Core.Path.{_≡_};
 ghost use Rattle.flow.specs.Lists.{refusalFrom};
 ghost use Rattle.store.specs.Maps.{mapsBefore, mapsAfter};
@@ -36,7 +35,7 @@ pub fn finish(words: &mut [u64; 97], descriptors: &mut [u8; 512], names: &mut [u
 {
     let lost = lost_by(words, descriptors, names, q);
     let emptied = emptied_by(words, descriptors, names, q);
-    empty_container(words, Container(emptied));
+    empty_container(words, emptied);
     change_tables(words, descriptors, names, q);
     release(words, descriptors, names, lost);
 }

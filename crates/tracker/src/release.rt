@@ -1,11 +1,11 @@
 // What a call empties (document 01, The records), and what it ends the use of, which is emptied in the same call (The box).
 use crate::Call;
-use store::blocks::FILES;
 use store::blocks::block_files;
 use store::cells::empty_container;
 use store::limits::CLOSED;
 use store::limits::CONTAINERS;
 use store::limits::DEVICES;
+use store::limits::FILES;
 use store::limits::FIRST_FILE;
 use store::lookups::descriptor;
 use store::lookups::fed;
@@ -33,7 +33,8 @@ fn held_by(words: &[u64; 97], descriptors: &[u8; 512], p: u8) -> u64
         | ((feeders(words, Process(p)) | fed(words, Process(p))) & FILES)
 }
 
-// What a call may end the use of: what an entry leads to, where that is a file or pipe, and a set of containers.
+// What a call may end the use of: what an entry leads to, or unmap's container, where that is a file or pipe (closed where there is none),
+// and a set of containers.
 pub struct Lost {
     pub entry: u8,
     pub held: u64,
@@ -68,7 +69,7 @@ pub fn lost_by(words: &[u64; 97], descriptors: &[u8; 512], names: &[u8; 128], q:
     }
 }
 
-// The container c, where no link leads into it.
+// The container c, where no link leads into it; else closed.
 fn free(words: &[u64; 97], c: u8) -> u8
     ensures { λ r. ⌜ ((d n : List ℕ) → r ≡ freeAt (view (now (words .entry)) d n .tables) c) ⌝ }
 {
@@ -78,8 +79,8 @@ fn free(words: &[u64; 97], c: u8) -> u8
     c
 }
 
-// The container that a call that is not refused empties, whatever its use. A fork's child is emptied by its plan, and an exit's process is
-// among the lost.
+// The container that a call that is not refused empties, whatever its use, or closed where there is none. A fork's child is emptied by its
+// plan, and an exit's process is among the lost.
 pub fn emptied_by(words: &[u64; 97], descriptors: &[u8; 512], names: &[u8; 128], q: Call) -> u8
     requires { ⌜ Passes (now words) (now descriptors) (now names) q ⌝ }
     ensures { λ r. ⌜ containerSet r ≡ emptiedAt (mapsBefore words descriptors names .tables) q (kindOf (q .kind)) ⌝ }
@@ -97,7 +98,7 @@ pub fn emptied_by(words: &[u64; 97], descriptors: &[u8; 512], names: &[u8; 128],
     }
 }
 
-// What an entry leads to, where that is a file or pipe that is not in use.
+// What an entry leads to, where that is a file or pipe that is not in use; else closed.
 fn unused(words: &[u64; 97], descriptors: &[u8; 512], names: &[u8; 128], e: u8) -> u8
     ensures { λ r. ⌜ containerSet r ≡ goneOf (mapsBefore words descriptors names .tables) (fileSet e) ⌝ }
 {
@@ -116,7 +117,7 @@ fn release_one(words: &mut [u64; 97], descriptors: &[u8; 512], names: &[u8; 128]
 {
     sets::lengths(words, names);
     if !in_use(words, descriptors, names, Container(v)) {
-        empty_container(words, Container(v));
+        empty_container(words, v);
     }
 }
 
@@ -138,6 +139,6 @@ pub fn release(words: &mut [u64; 97], descriptors: &[u8; 512], names: &[u8; 128]
     ensures { λ _. ⌜ (let m = mapsBefore words descriptors names in mapsAfter words descriptors names ≡ withItems m (cleared (m .items) (goneOf (m .tables) (lostSet lost)))) ⌝ }
 {
     let c = unused(words, descriptors, names, lost.entry);
-    empty_container(words, Container(c));
+    empty_container(words, c);
     release_each(words, descriptors, names, lost.held);
 }

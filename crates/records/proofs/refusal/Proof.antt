@@ -30,5 +30,7 @@ refusal-spec =
     (λ c κs. search needs) (λ c κs. search needs)
     (λ c. sym (framed _ false false _ (uncut (c .before .before .before)) (tag-known (c .before) ∙ not-true _ (c .if2 .taken)) refl))
     (λ c κs. search needs) (λ c κs. search needs)
-    (λ c. sym (framed _ false true true (uncut (c .before .before .before .before .before .before)) (tag-known (c .before .before .before .before) ∙ not-false _ (c .before .before .before .if2 .left)) (length-wrong (c .before) ∙ ap not (ne-eqb _ _ (c .if3 .taken)))))
-    (λ c. sym (framed _ false true false (uncut (c .before .before .before .before .before .before)) (tag-known (c .before .before .before .before) ∙ not-false _ (c .before .before .before .if2 .left)) (length-wrong (c .before) ∙ ap not (eq-eqb _ _ (c .if3 .left))))))
+    (λ c. let b = c .before .before .before in
+    sym (framed _ false true true (uncut (b .before .before .before)) (tag-known (b .before) ∙ not-false _ (b .if2 .left)) (length-wrong (c .before) ∙ ap not (ne-eqb _ _ (c .if3 .taken)))))
+    (λ c. let b = c .before .before .before in
+    sym (framed _ false true false (uncut (b .before .before .before)) (tag-known (b .before) ∙ not-false _ (b .if2 .left)) (length-wrong (c .before) ∙ ap not (eq-eqb _ _ (c .if3 .left))))))

@@ -9,4 +9,5 @@ unfolding itemsBy
 make-spec =
     tie.close
     (tie.spec (λ c κs. search needs) (λ c κs. search needs) (λ c κs. search needs) (λ c. search needs)
-    (λ c. rw (c .before .before .give2 .ensures, c .before .before .before .before .before .before .give .ensures, c .before .before .before .before .before .before .before .before .before .before .empty .ensures)))
+    (λ c. let second = c .before .before in let first = second .before .before .before .before in let emptied = first .before .before .before .before in
+    rw (second .give2 .ensures, first .give .ensures, emptied .empty .ensures)))

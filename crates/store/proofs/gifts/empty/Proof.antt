@@ -17,10 +17,14 @@ cast-v : tie.Need-cast-v Inv-loop μ-loop
 cast-v c = omega (arith, turn-below _ (c .before .before .loop .inv .small) (c .before .loop-test .taken) _ (c .lowest .ensures))
 
 loop-less : tie.Need-loop-less Inv-loop μ-loop
-loop-less c = turn-fewer _ (c .before .before .before .before .before .before .before .loop .inv .small) (c .before .before .before .before .before .before .loop-test .taken) _ (c .before .before .before .before .before .lowest .ensures) _ (c .without .ensures)
+loop-less c =
+    let b = c .before .before .before .before .before in
+    turn-fewer _ (b .before .before .loop .inv .small) (b .before .loop-test .taken) _ (b .lowest .ensures) _ (c .without .ensures)
 
 loop-again : tie.Need-loop-again Inv-loop μ-loop
-loop-again c = working-more _ (c .before .before .before .before .before .before .before .loop .inv) (c .before .before .before .before .before .before .loop-test .taken) _ (c .before .before .before .before .before .lowest .ensures) _ _ (c .before .before .before .empty-at .ensures) (c .without .ensures)
+loop-again c =
+    let b = c .before .before .before .before .before in
+    working-more _ (b .before .before .loop .inv) (b .before .loop-test .taken) _ (b .lowest .ensures) _ _ (c .before .before .before .empty-at .ensures) (c .without .ensures)
 
 pub empty-spec : {M : Type 1} → statement M
 empty-spec =
