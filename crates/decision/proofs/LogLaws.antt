@@ -81,8 +81,8 @@ unfolding extentOf recordLength
 whole-or-rest bytes =
     choice (λ (n : ℕ). (length bytes ≤ n) ⊎ (3 ≤ n)) (cutShort bytes) (length bytes) (3 + statedLength bytes) (λ e. inl (omega arith)) (λ e. inr (omega arith))
 
-few-next : (bytes : List ℕ) (f : ℕ) → length bytes ≤ suc f → 0 < length bytes → ((x : List ℕ) → length x ≤ f → 3 * length (recordsOf x) ≤ length x + 2) → 3 * length (recordsOf bytes) ≤ length bytes + 2
-few-next bytes f l h k =
+bound-next : (bytes : List ℕ) (f : ℕ) → length bytes ≤ suc f → 0 < length bytes → ((x : List ℕ) → length x ≤ f → 3 * length (recordsOf x) ≤ length x + 2) → 3 * length (recordsOf bytes) ≤ length bytes + 2
+bound-next bytes f l h k =
     let e : length (recordsOf bytes) ≡ suc (length (recordsOf (drop (extentOf bytes) bytes))) = ap length (records-first bytes h) in
     let d : length (drop (extentOf bytes) bytes) ≡ length bytes - extentOf bytes = length-drop (extentOf bytes) bytes in
     let p : 1 ≤ extentOf bytes = extent-positive bytes h in
@@ -93,25 +93,24 @@ few-next bytes f l h k =
     (λ (w : 3 ≤ extentOf bytes). omega arith)
     (whole-or-rest bytes)
 
-few-step : (bytes : List ℕ) (f : ℕ) → length bytes ≤ suc f → ((x : List ℕ) → length x ≤ f → 3 * length (recordsOf x) ≤ length x + 2) → 3 * length (recordsOf bytes) ≤ length bytes + 2
-few-step [] f l k = let z : length (recordsOf []) ≡ 0 = no-records in omega arith
-few-step (b ∷ bytes) f l k = few-next (b ∷ bytes) f l (omega arith) k
+bound-step : (bytes : List ℕ) (f : ℕ) → length bytes ≤ suc f → ((x : List ℕ) → length x ≤ f → 3 * length (recordsOf x) ≤ length x + 2) → 3 * length (recordsOf bytes) ≤ length bytes + 2
+bound-step [] f l k = let z : length (recordsOf []) ≡ 0 = no-records in omega arith
+bound-step (b ∷ bytes) f l k = bound-next (b ∷ bytes) f l (omega arith) k
 
-few-none : (bytes : List ℕ) → length bytes ≤ 0 → 3 * length (recordsOf bytes) ≤ length bytes + 2
-few-none [] l = let z : length (recordsOf []) ≡ 0 = no-records in omega arith
-few-none (b ∷ bytes) l = absurd (let z : ⊥ = omega arith in z)
+bound-none : (bytes : List ℕ) → length bytes ≤ 0 → 3 * length (recordsOf bytes) ≤ length bytes + 2
+bound-none [] l = let z : length (recordsOf []) ≡ 0 = no-records in omega arith
+bound-none (b ∷ bytes) l = absurd (let z : ⊥ = omega arith in z)
 
-few : (f : ℕ) (bytes : List ℕ) → length bytes ≤ f → 3 * length (recordsOf bytes) ≤ length bytes + 2
-few zero = few-none
-few (suc f) = λ bytes l. few-step bytes f l (few f)
+bound-within : (f : ℕ) (bytes : List ℕ) → length bytes ≤ f → 3 * length (recordsOf bytes) ≤ length bytes + 2
+bound-within zero = bound-none
+bound-within (suc f) = λ bytes l. bound-step bytes f l (bound-within f)
 
--- a record has three bytes, but for the last
-pub few-records : (log : List ℕ) → 3 * length (recordsOf log) ≤ length log + 2
-few-records log = few (length log) log (omega arith)
+pub records-bound : (log : List ℕ) → 3 * length (recordsOf log) ≤ length log + 2
+records-bound log = bound-within (length log) log (omega arith)
 
 -- where a log's length says that there is room, there is
 pub room-enough : (log : List ℕ) (room : ℕ) → length log / 3 < room → true ≡ leb (length (recordsOf log)) room
-room-enough log room h = sym (le-leb (length (recordsOf log)) room (let z : 3 * length (recordsOf log) ≤ length log + 2 = few-records log in omega arith))
+room-enough log room h = sym (le-leb (length (recordsOf log)) room (let z : 3 * length (recordsOf log) ≤ length log + 2 = records-bound log in omega arith))
 
 -- ---- running
 pub record Running (m₀ : Monitor) (log codes₀ : List ℕ) (m : Monitor) (at n : ℕ) (codes : List ℕ) : Type 0 where

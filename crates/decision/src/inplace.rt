@@ -121,7 +121,7 @@ fn give_judged(
     RULE_COUNT
 }
 
-// The same, where calls of this kind can give. Apart, so that the compiler leads the other kinds past it.
+// The same of every kind: those that cannot give are neither planned nor judged. Apart, so that the compiler leads them past it.
 fn give_in(
     words: &mut [u64; 97],
     descriptors: &[u8; 512],

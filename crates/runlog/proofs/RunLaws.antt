@@ -21,12 +21,12 @@ use Rattle.decision.specs.declared.RunResult.{RunResult}
 use Rattle.decision.specs.View.{view}
 use Rattle.decision.specs.Answers.{Sound}
 use Rattle.decision.specs.Logs.{codesOf, roomFor, AnswersLogBy, AnswersLog}
-use Rattle.decision.proofs.LogLaws.{few-records}
+use Rattle.decision.proofs.LogLaws.{records-bound}
 use Rattle.runlog.specs.Limits.{recordLimit}
 
 has-room : (log codes : List ℕ) → length log ≤ logLimit → recordLimit ≤ length codes → leb (length (recordsOf log)) (length codes) ≡ true
 has-room log codes h g =
-    le-leb (length (recordsOf log)) (length codes) (let z : 3 * length (recordsOf log) ≤ length log + 2 = few-records log in omega arith)
+    le-leb (length (recordsOf log)) (length codes) (let z : 3 * length (recordsOf log) ≤ length log + 2 = records-bound log in omega arith)
 
 -- the codes of the answers stand at the front
 pub front-codes : (m : Monitor) (log before : List ℕ) (r : RunResult) (codes : List ℕ) (n : ℕ) → view m ≡ fresh → AnswersLog m log before r codes → ((k : ℕ) → replyOf (r .reply) ≡ result k → n ≡ k)

@@ -28,6 +28,10 @@ pub record Working (f : ℕ → ℕ) (items₀ : List ℕ) (r : ℕ) (items : Li
   pub same : mapped f items left ≡ mapped f items₀ r
 
 module _ (f : ℕ → ℕ) where
+  -- of the empty set, nothing
+  mapped-none : (l : List ℕ) → length l ≡ 64 → l ≡ mapped f l 0
+  mapped-none l e = is-table 64 _ l e (λ i h. sym (chosen-r (has 0 i) (f (getD l i 0)) (getD l i 0) (none-has i)))
+
   pub working-start : (items : List ℕ) (r : ℕ) → length items ≡ 64 → r < 2 ^ 64 → Working f items r items r
   working-start items r e h = record { long = e; small = h; same = refl }
 
@@ -53,9 +57,7 @@ module _ (f : ℕ → ℕ) where
         }
 
     pub working-end : left ≡ 0 → items ≡ mapped f items₀ r
-    working-end e =
-        is-table 64 _ items (w .long) (λ i h. sym (chosen-r (has 0 i) (f (getD items i 0)) (getD items i 0) (none-has i)))
-        ∙ ap (mapped f items) (sym e) ∙ w .same
+    working-end e = mapped-none items (w .long) ∙ ap (mapped f items) (sym e) ∙ w .same
 
 -- ---- the two kinds of turn
 pub given-mapped : (l : List ℕ) (r x : ℕ) → mapped (λ y. y ∪ x) l r ≡ given l r x
@@ -78,4 +80,4 @@ cleared-one l v e h = is-table 64 _ (set l v 0) (length-set l v 0 ∙ e) (λ i k
 -- none
 pub cleared-none : (l : List ℕ) → length l ≡ 64 → l ≡ cleared l 0
 unfolding cleared
-cleared-none l e = is-table 64 _ l e (λ i h. sym (chosen-r (has 0 i) 0 (getD l i 0) (none-has i)))
+cleared-none = mapped-none (λ y. 0)

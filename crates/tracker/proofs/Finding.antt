@@ -4,7 +4,7 @@ use native.Mathlib.Omega.{arith}
 use native.Mathlib.Nat.{mod-eq-of-lt}
 use native.Mathlib.Decide.{ℕ-discrete}
 use mathlib.Core.Path.{_≡_, refl, sym, ap, ap₂, _∙_}
-use mathlib.Core.Bool.{Bool, true, false, not, _&&_, _||_, or-false, and-comm}
+use mathlib.Core.Bool.{Bool, true, false, not, _&&_, _||_, or-false, and-comm, and-or-distrib-right}
 use mathlib.Core.List.{List}
 use lib.Dec.{eqb}
 use lib.ListN.{getD, length}
@@ -17,6 +17,7 @@ use Rattle.flow.proofs.Bools.{by, chosen-l, chosen-r}
 use Rattle.flow.proofs.TableLaws.{table-at, table-length, is-table}
 use Rattle.store.specs.Maps.{Maps, withItems, cleared, fileSet, containerSet}
 use Rattle.store.proofs.Files.{file-range, fileSet-file, fileSet-none, containerSet-low}
+use Rattle.store.proofs.Worklist.{cleared-none}
 use Rattle.tracker.specs.Plans.{freeSet, freeAt, unusedSet, goneOf}
 
 -- ---- what no link leads into
@@ -84,17 +85,7 @@ module _ (t : Tables) where
 
   -- of two sets
   pub gone-both : (x y c : ℕ) → c < 64 → (has (goneOf t x) c || has (goneOf t y) c) ≡ has (goneOf t (x ∪ y)) c
-  gone-both x y c h = rw (gone-has x c h, gone-has y c h, gone-has (x ∪ y) c h, union-has x y c) (split (has x c) (has y c) (not (used t c)))
-    where
-      split : (a b n : Bool) → ((a && n) || (b && n)) ≡ ((a || b) && n)
-      split true true true = refl
-      split true true false = refl
-      split true false true = refl
-      split true false false = refl
-      split false true true = refl
-      split false true false = refl
-      split false false true = refl
-      split false false false = refl
+  gone-both x y c h = rw (gone-has x c h, gone-has y c h, gone-has (x ∪ y) c h, union-has x y c) (sym (and-or-distrib-right (has x c) (has y c) (not (used t c))))
 
   -- of a set less one member, and that member
   gone-turn : (left v : ℕ) → v < 64 → has left v ≡ true → (c : ℕ) → c < 64 → (has (unusedSet t v) c || has (goneOf t (without left v)) c) ≡ has (goneOf t left) c
@@ -130,5 +121,5 @@ module _ {m₀ m : Maps} {held left : ℕ} (r : Releasing m₀ m held left) wher
   pub releasing-end : left ≡ 0 → m ≡ withItems m₀ (cleared (m₀ .items) (goneOf (m₀ .tables) held))
   unfolding cleared
   releasing-end e =
-      let none : m .items ≡ cleared (m .items) (goneOf (m₀ .tables) left) = is-table 64 _ (m .items) (r .long) (λ c h. sym (chosen-r (has (goneOf (m₀ .tables) left) c) 0 (getD (m .items) c 0) (rw (e, gone-none (m₀ .tables)) (none-has c)))) in
+      let none : m .items ≡ cleared (m .items) (goneOf (m₀ .tables) left) = cleared-none (m .items) (r .long) ∙ ap (cleared (m .items)) (sym (ap (goneOf (m₀ .tables)) e ∙ gone-none (m₀ .tables))) in
       ap₂ (λ (t : Tables) (l : List ℕ). record { tables = t; items = l }) (r .tables) (none ∙ r .same)
