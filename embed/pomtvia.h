@@ -171,7 +171,7 @@ static inline uint8_t pomtvia_run(struct pomtvia_monitor *m, const uint8_t *log,
     return pomtvia_run_in(m, log ? log : none, log ? length : 0, answers ? answers : nowhere, answers ? room : 0, count);
 }
 
-/* The containers that hold an item: 0, *count is how many, and their numbers stand at the front of `out`, each once, in no stated order.
+/* The containers that hold an item: 0, *count is how many, and their numbers stand at the front of `out`, each once, in rising order.
  * POMTVIA_OUT_OF_RANGE where the item is above 63, POMTVIA_SLICE_SHORT where there is room for fewer; then `out` and *count are as they
  * were. The elements behind the numbers always are. 64 is always room enough. */
 static inline uint8_t pomtvia_holders(const struct pomtvia_monitor *m, uint8_t item, uint16_t *out, size_t room, uint64_t *count)

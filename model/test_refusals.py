@@ -321,10 +321,10 @@ def test_holders_query(checks: Checks, options: Options) -> None:
     tracker = allows(SETUP + [Call(Kind.READ, 0, 0)])
     lent = [700, 701, 702, 703]
     checks.equal("holders: count", tracker.query_holders(1, lent), 2)
-    checks.equal("holders: slice", (sorted(lent[:2]), lent[2:]), ([8, 24], [702, 703]))
+    checks.equal("holders: slice", lent, [8, 24, 702, 703])
     exact = [0, 0]
     checks.equal("holders: exact slice", tracker.query_holders(1, exact), 2)
-    checks.equal("holders: exact slice filled", sorted(exact), [8, 24])
+    checks.equal("holders: exact slice filled", exact, [8, 24])
     short = [77]
     checks.equal("holders: short", tracker.query_holders(1, short), refused(Refusal.SLICE_SHORT))
     checks.equal("holders: short slice kept", short, [77])

@@ -19,4 +19,5 @@ pub mod TwoRuns
 pub mod Exact
 pub mod Runs
 pub mod Consequences
+pub mod Holders
 pub mod Fork

@@ -6,8 +6,9 @@ use mathlib.Core.Logic.{_↔_}
 use mathlib.Core.Bool.{Bool, true, false, _&&_}
 use mathlib.Core.List.{List, [], _∷_, _++_, map}
 use mathlib.Core.Option.{none, some}
-use lib.ListN.{getD, length, take}
-use Rattle.flow.specs.Lists.{Test, _⇒_}
+use lib.Dec.{ltb}
+use lib.ListN.{getD, length, take, drop}
+use Rattle.flow.specs.Lists.{isIn, Test, _⇒_}
 use Rattle.flow.specs.Box.{containerCount, processCount, descriptorCount, containerOf, Rule, State, itemsOf, holds, descriptor}
 use Rattle.flow.specs.Links.{linked, used}
 use Rattle.flow.specs.Calls.{Kind, fork, kindNumber, Call, Change, change, after}
@@ -15,6 +16,7 @@ use Rattle.flow.specs.Rules.{broken, Numbered, lowestBroken}
 use Rattle.flow.specs.Records.{recordLength, kindOf, callOf, recordsOf}
 use Rattle.flow.specs.Refusals.{recordTests, refusal}
 use Rattle.flow.specs.Verdicts.{allows, inhibits, modifies, diversion, mayDivert, breaksNone, outcome, refused, allow, inhibit, answer, next, answerAll, runLog}
+use Rattle.flow.specs.Queries.{refuse, result, holders, holdersQuery, holdersSlice}
 use Rattle.flow.specs.Contents.{Step, entry, stateAt}
 
 -- a record is refused with the first number of its tests that applies, and every other record is accepted
@@ -91,6 +93,27 @@ pub data RowOf : List ℕ → List (List ℕ) → Type 0 where
 
 unfoldable pub LogIsRow : Type 0
 LogIsRow = (log : List ℕ) → RowOf log (recordsOf log)
+
+-- each number of the list is below all that stand behind it
+unfoldable pub Rises : List ℕ → Type 0
+Rises [] = Unit {0}
+Rises (x ∷ l) = ((y : ℕ) → isIn y l ≡ true → x < y) × Rises l
+
+-- 02, Paper 1: a list is that of the holders exactly if it rises and the containers that hold the item are what stands in it
+unfoldable pub HoldersInOrder : Type 0
+HoldersInOrder =
+    (s : State) (i : ℕ) (l : List ℕ) → l ≡ holders s i ↔ Rises l × ((c : ℕ) → isIn c l ≡ (ltb c containerCount && holds s c i))
+
+-- The query for the holders leaves the slice as long as it was. Where it answers n, the first n elements are the holders and the others are
+-- as before; where it refuses, all are.
+unfoldable pub SliceAnswered : Type 0
+SliceAnswered =
+    (s : State) (i : ℕ) (before : List ℕ)
+    → (let now = holdersSlice s i before in
+    let reply = holdersQuery s i (length before) in
+    (length now ≡ length before)
+    × ((n : ℕ) → reply ≡ result n → (take n now ≡ holders s i) × (drop n now ≡ drop n before))
+    × ((n : ℕ) → reply ≡ refuse n → now ≡ before))
 
 -- The records of a log are steps: after any steps, a log leaves the state that they have with its records added.
 unfoldable pub LogIsSteps : Type 0

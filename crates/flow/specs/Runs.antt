@@ -1,13 +1,15 @@
--- Document 01, Runs to check: the starred runs as one list, and two examples that contents do move.
+-- Document 01, Runs to check: the starred runs as one list, and two examples that contents do move. 02, Paper 1: the holders after some logs.
 use Prim.Native.Nat.{ℕ, _+_}
 use mathlib.Core.Path.{_≡_}
 use mathlib.Core.Bool.{true, false}
 use mathlib.Core.List.{List, [], _∷_, _++_, map}
 use lib.Dec.{eqb}
+use lib.ListN.{length}
 use Rattle.flow.specs.Lists.{table}
 use Rattle.flow.specs.Box.{fresh, itemsOf}
 use Rattle.flow.specs.Calls.{Kind, start, openName, create, pipe, device, dup, close, read, write, truncate, mapRead, mapBoth, unmap, unlink, rename, link, fork, exit, label, kindNumber}
 use Rattle.flow.specs.Verdicts.{Answer, refused, rule, allow, inhibit, modify, runLog}
+use Rattle.flow.specs.Queries.{Reply, refuse, result, holdersQuery, holdersSlice}
 use Rattle.flow.specs.Contents.{Step, entry, memory, Feeder, Machine, stateAt, runAt}
 
 -- a container, and the set of its items
@@ -160,6 +162,51 @@ further =
 
 unfoldable pub Further : Type 0
 Further = map outcomeOf further ≡ further
+
+-- ---- 02, Paper 1: holders in rising container number
+-- an item asked for after a log with a lent slice, the reply, and the slice after it
+pub record Asked : Type 0 where
+  pub log : List ℕ
+  pub item : ℕ
+  pub lent : List ℕ
+  pub reply : Reply
+  pub slice : List ℕ
+
+-- reply and slice as the definitions have them
+unfoldable pub replied : Asked → Asked
+replied x =
+    let s = runLog fresh (x .log) .state in
+    record {
+      log = x .log;
+      item = x .item;
+      lent = x .lent;
+      reply = holdersQuery s (x .item) (length (x .lent));
+      slice = holdersSlice s (x .item) (x .lent);
+    }
+
+abbrev ask : List ℕ → ℕ → List ℕ → Reply → List ℕ → Asked
+ask log i lent reply slice = record { log = log; item = i; lent = lent; reply = reply; slice = slice }
+
+-- item 1 comes to 63, then to process 15, to 24 and last to device 0
+unfoldable pub falling : List ℕ
+falling =
+    call start 15 0 0 0 ++ call create 15 0 0 63 ++ call create 15 1 1 24 ++ call label 0 63 1 0 ++ call read 15 0 0 0 ++ call write 15 1 0 0
+    ++ call label 0 0 1 0
+
+unfoldable pub asked : List Asked
+asked =
+    -- in rising number, whatever the order in which they came to hold it; elements past these keep their numbers
+    ask falling 1 (100 ∷ 101 ∷ 102 ∷ 103 ∷ 104 ∷ 105 ∷ []) (result 4) (0 ∷ 23 ∷ 24 ∷ 63 ∷ 104 ∷ 105 ∷ [])
+    -- the slice just fits; it is one too short, and keeps its numbers
+    ∷ ask shared 2 (100 ∷ 101 ∷ 102 ∷ 103 ∷ []) (result 4) (8 ∷ 9 ∷ 24 ∷ 25 ∷ [])
+    ∷ ask shared 2 (100 ∷ 101 ∷ 102 ∷ []) (refuse 13) (100 ∷ 101 ∷ 102 ∷ [])
+    -- no holder; 5 before 13
+    ∷ ask shared 63 [] (result 0) []
+    ∷ ask shared 64 [] (refuse 5) []
+    ∷ []
+
+unfoldable pub HoldersAsked : Type 0
+HoldersAsked = map replied asked ≡ asked
 
 -- ---- contents do move
 -- the sum of the contents of what links to a container

@@ -3,7 +3,7 @@ use Prim.Native.Nat.{ℕ}
 use mathlib.Core.Path.{_≡_}
 use mathlib.Core.List.{List}
 use lib.ListN.{length}
-use Rattle.flow.specs.Queries.{Reply as Word, refuse, result, itemsQuery, holdersQuery, HoldersSlice}
+use Rattle.flow.specs.Queries.{Reply as Word, refuse, result, itemsQuery, holdersQuery, holdersSlice}
 use Rattle.tracker.specs.declared.queries.Reply.{Reply}
 use Rattle.tracker.specs.Replies.{replyOf}
 use Rattle.decision.specs.declared.Monitor.{Monitor}
@@ -36,4 +36,4 @@ ItemsGiven m c set n set′ = Given (itemsQuery (view m) c) set n set′
 
 pub record HoldersGiven (m : Monitor) (i : ℕ) (out : List ℕ) (count n : ℕ) (out′ : List ℕ) (count′ : ℕ) : Type 0 where
   pub given : Given (holdersQuery (view m) i (length out)) count n count′
-  pub slice : HoldersSlice (view m) i out out′
+  pub slice : out′ ≡ holdersSlice (view m) i out

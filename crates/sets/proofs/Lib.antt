@@ -1,2 +1,3 @@
 pub mod Members
+pub mod Rising
 pub mod Unions

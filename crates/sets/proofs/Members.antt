@@ -315,7 +315,7 @@ without-part x v i m = first (has x i) (not (eqb i v)) (sym (without-has x v i (
     first false b e = e
 
 -- with one taken out, one fewer
-ones-more : (n k : ℕ) (f : ℕ → Bool) → ones (thoseFrom (suc n) k f) ≡ bit (f k) + ones (thoseFrom n (suc k) f)
+pub ones-more : (n k : ℕ) (f : ℕ → Bool) → ones (thoseFrom (suc n) k f) ≡ bit (f k) + ones (thoseFrom n (suc k) f)
 unfolding thoseFrom bit
 ones-more n k f = go (f k) (thoseFrom n (suc k) f)
   where

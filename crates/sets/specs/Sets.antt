@@ -1,7 +1,7 @@
 -- Sets of the numbers 0 to 63, each coded as one number below 2 ^ 64: i is a member where bit i is set. The empty set is 0.
 use Prim.Native.Nat.{ℕ, zero, suc, _+_, _*_, _/_, _%_, _^_}
 use mathlib.Core.Bool.{Bool, true, false, not, _&&_}
-use mathlib.Core.List.{List, [], _∷_}
+use mathlib.Core.List.{List, [], _∷_, _++_}
 use lib.Dec.{eqb}
 use lib.Bits.{bitOr, bitAnd}
 use lib.Count.{ones, trailingZeros}
@@ -35,6 +35,19 @@ thoseFrom (suc n) k f = bit (f k) + 2 * thoseFrom n (suc k) f
 -- of the numbers 0 to 63, those that f holds of
 unfoldable pub those : (ℕ → Bool) → ℕ
 those f = thoseFrom 64 0 f
+
+-- of the n numbers from k on, those that f holds of, in rising order
+unfoldable pub risingFrom : ℕ → ℕ → (ℕ → Bool) → List ℕ
+risingFrom zero k f = []
+risingFrom (suc n) k f = elim (f k) [ true ↦ k ∷ [] | false ↦ [] ] ++ risingFrom n (suc k) f
+
+-- of the numbers 0 to 63, those that f holds of, in rising order
+unfoldable pub rising : (ℕ → Bool) → List ℕ
+rising f = risingFrom 64 0 f
+
+-- the members of the set, in rising order
+unfoldable pub members : ℕ → List ℕ
+members x = rising (has x)
 
 -- the set x less i
 unfoldable pub without : ℕ → ℕ → ℕ

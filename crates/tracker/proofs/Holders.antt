@@ -2,20 +2,21 @@
 use Prim.Native.Nat.{ℕ, zero, suc, _+_, _%_, _^_, _≤_, _<_, zero-le}
 use native.Mathlib.Omega.{arith}
 use native.Mathlib.Numerals.{add-one}
-use native.Mathlib.Decide.{ℕ-discrete, decLt}
-use mathlib.Core.Path.{_≡_, refl, sym, ap, _∙_}
+use native.Mathlib.Decide.{ℕ-discrete}
+use mathlib.Core.Path.{_≡_, refl, sym, ap, ap₂, _∙_}
 use mathlib.Core.Bool.{true, false, _&&_, _||_, and-true, and-false, or-false}
 use mathlib.Core.Option.{none, some}
-use mathlib.Core.List.{List, [], _∷_, _++_}
+use mathlib.Core.List.{List, [], _++_, append-nil}
 use lib.Dec.{eqb, ltb}
-use lib.ListN.{length, take, drop, getD, set, length-set}
-use lib.Seq.{take-suc-set, drop-set-lt, drop-drop}
+use lib.ListN.{length, take, drop, getD, set, length-set, take-append-drop}
+use lib.Seq.{append-snoc, take-suc-set, drop-set-lt, drop-drop}
 use borrow.Author.Tests.{eq-eqb, ne-eqb, lt-ltb, le-ltb, lt-leb, le-leb, ltb-true, ltb-false}
-use Rattle.sets.specs.Sets.{has, only, _∪_, bit, those, without, count, lowest}
-use Rattle.sets.proofs.Members.{those-has, those-lt, without-has, without-lt, none-has, only-has, only-lt, union-has, union-lt, past-has, has-lt, set-ext, count-less, count-none, member, turn-below, itself, turn-fewer}
+use Rattle.sets.specs.Sets.{has, only, _∪_, those, members, without, count, lowest}
+use Rattle.sets.proofs.Members.{those-has, those-lt, without-lt, none-has, only-has, only-lt, union-has, union-lt, set-ext, count-less, count-none, member, turn-below, itself, turn-fewer}
+use Rattle.sets.proofs.Rising.{members-none, members-next, members-those, members-count}
 use Rattle.flow.specs.Lists.{firstThat}
 use Rattle.flow.specs.Box.{State, itemsOf, holds}
-use Rattle.flow.specs.Queries.{refuse, result, itemsQuery, holders, holdersRefusal, replyBy, holdersQuery, occurs, Lists, SliceBy, HoldersSlice}
+use Rattle.flow.specs.Queries.{refuse, result, itemsQuery, holders, holdersRefusal, replyBy, holdersQuery, sliceBy, holdersSlice}
 use Rattle.flow.proofs.Bools.{by, chosen-l, chosen-r}
 use Rattle.tracker.specs.declared.queries.Reply.the-variants.{Result, Refused}
 use Rattle.tracker.specs.Replies.{replyOf, AnswersHolders, withHolder}
@@ -76,40 +77,23 @@ found-has items i (suc n) j =
     go (yes e) = rw (← e, le-ltb n n (omega arith), lt-ltb n (suc n) (omega arith), eq-eqb n n refl) (and-true (has (getD items n 0) i))
     go (no d) = rw (ne-eqb n j d, below d, and-false) (or-false (ltb j n && has (getD items j 0) i))
 
-pub found-all : (s : State) (i : ℕ) → foundTo (s .items) i 64 ≡ holders s i
-unfolding holders holds itemsOf
+pub found-all : (s : State) (i : ℕ) → foundTo (s .items) i 64 ≡ those (λ c. holds s c i)
+unfolding holds itemsOf
 found-all s i =
     set-ext (foundTo (s .items) i 64) (those (λ c. has (getD (s .items) c 0) i)) (found-lt (s .items) i 64 (omega arith)) (those-lt (λ c. has (getD (s .items) c 0) i))
     (λ j h. found-has (s .items) i 64 j ∙ rw (lt-ltb j 64 h) (sym (those-has (λ c. has (getD (s .items) c 0) i) j h)))
 
 -- ---- the slice, by the loop that fills it
-occurs-snoc : (k c : ℕ) (l : List ℕ) → occurs k (l ++ (c ∷ [])) ≡ occurs k l + bit (eqb k c)
-unfolding occurs bit
-occurs-snoc k c [] = by (eqb k c) (λ e. rw e) (λ e. rw e)
-occurs-snoc k c (y ∷ l) = omega (arith, occurs-snoc k c l)
-
--- the member c goes from the set into the list
-moved : (x c k : ℕ) → x < 2 ^ 64 → has x c ≡ true → bit (eqb k c) + bit (has (without x c) k) ≡ bit (has x k)
-unfolding bit
-moved x c k h m = go (decLt k 64) (ℕ-discrete k c)
-  where
-    go : Dec (k < 64) → Dec (k ≡ c) → bit (eqb k c) + bit (has (without x c) k) ≡ bit (has x k)
-    go (yes l) (yes e) = rw (without-has x c k l, e, eq-eqb c c refl, m)
-    go (yes l) (no d) = rw (without-has x c k l, ne-eqb k c d, and-true (has x k)) (omega arith)
-    go (no l) d =
-        rw (past-has x k h (omega arith), past-has (without x c) k (without-lt x c) (omega arith), ne-eqb k c (λ e. omega (arith, has-lt x c h m)))
-
--- the first n elements of `now` are members of x, each once, those left are the others, and the elements from n on are as before
+-- the first n elements of `now` and then the members left, rising, are the members of x, rising; the elements from n on are as before
 pub record Partly (x : ℕ) (before now : List ℕ) (left n : ℕ) : Type 0 where
   pub small : left < 2 ^ 64
   pub number : n + count left ≡ count x
   pub long : length now ≡ length before
-  pub listed : (k : ℕ) → occurs k (take n now) + bit (has left k) ≡ bit (has x k)
+  pub listed : take n now ++ members left ≡ members x
   pub rest : drop n now ≡ drop n before
 
 pub partly-none : (x : ℕ) (l : List ℕ) → x < 2 ^ 64 → Partly x l l x 0
-unfolding occurs
-partly-none x l h = record { small = h; number = omega arith; long = refl; listed = λ k. omega arith; rest = refl }
+partly-none x l h = record { small = h; number = omega arith; long = refl; listed = refl; rest = refl }
 
 -- what a turn needs, where c is the lowest member of those left, and what it ends with, where `later` is left then
 pub record Turn (x : ℕ) (before now : List ℕ) (left n c : ℕ) : Type 0 where
@@ -135,9 +119,9 @@ module _ (x : ℕ) (before now : List ℕ) (left n : ℕ) (p : Partly x before n
           small = without-lt left c;
           number = omega (arith, one-less);
           long = length-set now n c ∙ p .long;
-          listed = λ k.
-              rw (add-one, take-suc-set now n c in-range, occurs-snoc k c (take n now))
-              (omega (arith, moved left c k (p .small) there, p .listed k));
+          listed =
+              rw (add-one, take-suc-set now n c in-range, append-snoc (take n now) c (members (without left c)), ← members-next left c (p .small) there is)
+              (p .listed);
           rest = drop-set-lt (n + 1) now n c (omega arith) ∙ sym (drop-drop 1 n now) ∙ ap (drop 1) (p .rest) ∙ drop-drop 1 n before;
         }
 
@@ -154,9 +138,12 @@ module _ (x : ℕ) (before now : List ℕ) (left n : ℕ) (p : Partly x before n
     all-of : n ≡ count x
     all-of = omega (arith, ap count over, count-none)
 
-    pub partly-all : (length now ≡ length before) × Lists (take (count x) now) x × (drop (count x) now ≡ drop (count x) before)
-    unfolding Lists bit
-    partly-all = rw (← all-of) (p .long, (λ k. omega (arith, p .listed k, ap (λ y. bit (has y k)) over, ap bit (none-has k))), p .rest)
+    pub partly-all : now ≡ members x ++ drop (count x) before
+    partly-all =
+        sym (take-append-drop n now) ∙ ap₂ _++_ (sym (append-nil (take n now)) ∙ whole) (p .rest ∙ ap (λ k. drop k before) all-of)
+      where
+        whole : take n now ++ [] ≡ members x
+        whole = rw (over, members-none) at (p .listed)
 
 -- ---- the answers, in any state
 module _ (s : State) (i : ℕ) where
@@ -174,28 +161,33 @@ module _ (s : State) (i : ℕ) where
     range h = rw (le-leb 64 i h)
 
     pub refused-range : 64 ≤ i → AnswersHolders s i before (Refused 5) before
-    unfolding replyOf holdersQuery replyBy HoldersSlice SliceBy
+    unfolding replyOf holdersQuery replyBy holdersSlice sliceBy
     refused-range h = record { answer = rw (range h); slice = rw (range h) refl }
 
     -- the set x is found and its n members are counted
-    module _ (h : i < 64) (x n : ℕ) (found : x ≡ holders s (i % 64)) (counted : n ≡ count x) where
-      is-set : x ≡ holders s i
+    module _ (h : i < 64) (x n : ℕ) (found : x ≡ those (λ c. holds s c (i % 64))) (counted : n ≡ count x) where
+      is-set : x ≡ those (λ c. holds s c i)
       is-set = let e : i % 64 ≡ i = omega arith in rw e at found
+
+      is-list : members x ≡ holders s i
+      unfolding holders
+      is-list = rw is-set (members-those (λ c. holds s c i))
+
+      is-length : n ≡ length (holders s i)
+      is-length = counted ∙ sym (members-count x (rw is-set (those-lt (λ c. holds s c i)))) ∙ ap length is-list
 
       short : length before < n → holdersRefusal s i (length before) ≡ some 13
       unfolding holdersRefusal firstThat
-      short l = rw (lt-leb 64 i h, ← is-set, ← counted, lt-ltb (length before) n l)
+      short l = rw (lt-leb 64 i h, ← is-length, lt-ltb (length before) n l)
 
       pub refused-short : length before < n → AnswersHolders s i before (Refused 13) before
-      unfolding replyOf holdersQuery replyBy HoldersSlice SliceBy
+      unfolding replyOf holdersQuery replyBy holdersSlice sliceBy
       refused-short l = record { answer = rw (short l); slice = rw (short l) refl }
 
       fitting : n ≤ length before → holdersRefusal s i (length before) ≡ none
       unfolding holdersRefusal firstThat
-      fitting l = rw (lt-leb 64 i h, ← is-set, ← counted, le-ltb (length before) n l)
+      fitting l = rw (lt-leb 64 i h, ← is-length, le-ltb (length before) n l)
 
-      pub holders-given : (now : List ℕ) → n ≤ length before
-          → (length now ≡ length before) × Lists (take (count x) now) x × (drop (count x) now ≡ drop (count x) before)
-          → AnswersHolders s i before (Result n) now
-      unfolding replyOf holdersQuery replyBy HoldersSlice SliceBy
-      holders-given now l f = record { answer = rw (fitting l, ← is-set, counted); slice = rw (fitting l, ← is-set) f }
+      pub holders-given : (now : List ℕ) → n ≤ length before → now ≡ members x ++ drop (count x) before → AnswersHolders s i before (Result n) now
+      unfolding replyOf holdersQuery replyBy holdersSlice sliceBy
+      holders-given now l f = record { answer = rw (fitting l, ← is-length); slice = rw (fitting l, ← is-length, ← is-list, counted) f }

@@ -1,16 +1,16 @@
 // The two queries (document 01, What a record gets): the items of a container as a 64-bit set, and the holders of an item, whose numbers go
-// into a lent slice.
+// into a lent slice (document 02, Paper 1: in rising order).
 use store::limits::CONTAINERS;
 use store::limits::ITEMS;
 use store::lookups::items;
 use store::numbers::Container;
 ghost use Prim.Native.Nat.{ℕ, _%_, _≤_};
 ghost use mathlib.Core.Path.{_≡_};
-ghost use mathlib.Core.List.{List};
-ghost use lib.ListN.{length, take, drop};
-ghost use Rattle.sets.specs.Sets.{count};
-ghost use Rattle.flow.specs.Box.{Rule};
-ghost use Rattle.flow.specs.Queries.{itemsQuery, holders, Lists};
+ghost use mathlib.Core.List.{List, _++_};
+ghost use lib.ListN.{length, drop};
+ghost use Rattle.sets.specs.Sets.{those, members, count};
+ghost use Rattle.flow.specs.Box.{Rule, holds};
+ghost use Rattle.flow.specs.Queries.{itemsQuery};
 ghost use Rattle.store.specs.Maps.{view};
 ghost use Rattle.tracker.specs.View.{state};
 ghost use Rattle.tracker.specs.Replies.{replyOf, withHolder, AnswersHolders};
@@ -44,7 +44,7 @@ fn with_holder(x: u64, held: u64, i: u8, c: u8) -> u64
 
 // The containers that hold item i.
 fn holder_set(words: &[u64; 97], i: u8) -> u64
-    ensures { λ r. ⌜ ((d n : List ℕ) (rules : List Rule) → r ≡ holders (state (view (now (words .entry)) d n) rules) (i % 64)) ⌝ }
+    ensures { λ r. ⌜ ((d n : List ℕ) (rules : List Rule) → r ≡ those (λ c. holds (state (view (now (words .entry)) d n) rules) c (i % 64))) ⌝ }
 {
     let mut x = 0;
     for c in 0u8..CONTAINERS {
@@ -54,10 +54,10 @@ fn holder_set(words: &[u64; 97], i: u8) -> u64
     x
 }
 
-// The members of x, the lowest first, at the front of `out`, which has room for them.
+// The members of x, in rising order, at the front of `out`, which has room for them.
 fn fill(x: u64, out: &mut [u16])
     requires { ⌜ count x ≤ length (now out) ⌝ }
-    ensures { λ _. ⌜ (length (now (out .exit)) ≡ length (now (out .entry))) × Lists (take (count x) (now (out .exit))) x × (drop (count x) (now (out .exit)) ≡ drop (count x) (now (out .entry))) ⌝ }
+    ensures { λ _. ⌜ now (out .exit) ≡ members x ++ drop (count x) (now (out .entry)) ⌝ }
 {
     let mut left = x;
     let mut n = 0;
@@ -69,7 +69,7 @@ fn fill(x: u64, out: &mut [u16])
     }
 }
 
-// The containers that hold item i, at the front of `out`, and how many they are. A refusal leaves `out` as it was.
+// The containers that hold item i, in rising number, at the front of `out`, and how many they are. A refusal leaves `out` as it was.
 pub fn holders_in(words: &[u64; 97], i: u8, out: &mut [u16]) -> Reply
     ensures { λ r. ⌜ ((d n : List ℕ) (rules : List Rule) → AnswersHolders (state (view (now (words .entry)) d n) rules) i (now (out .entry)) r (now (out .exit))) ⌝ }
 {

@@ -168,8 +168,8 @@ impl Monitor {
         unless_refused(refusal, set)
     }
 
-    /// The containers that hold an item, at the front of `out`, each once; the result is how many. Refused with 5 where the item is above
-    /// 63, with 13 where `out` is shorter; then `out` is as it was.
+    /// The containers that hold an item, at the front of `out`, each once, in rising number; the result is how many, and the elements
+    /// behind them are as they were. Refused with 5 where the item is above 63, with 13 where `out` is shorter; then `out` is as it was.
     pub fn holders(&self, item: u8, out: &mut [u16]) -> Result<usize, Refusal> {
         let mut count = 0;
         // As in `items`; `out` is borrowed apart from the monitor.

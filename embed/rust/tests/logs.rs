@@ -92,7 +92,6 @@ fn queries_are_the_models() {
             holders += &match m.holders(i, &mut out) {
                 Ok(n) => {
                     assert!(out[n..].iter().all(|&x| x == 999), "elements behind keep their numbers");
-                    out[..n].sort();
                     format!("{i}{}\n", out[..n].iter().map(|c| format!(" {c}")).collect::<String>())
                 }
                 Err(Refusal(n)) => format!("{i} refused {n}\n"),
@@ -115,8 +114,23 @@ fn short_slices_are_refused() {
     assert_eq!(m.items(8), Ok(8));
     assert_eq!(m.holders(3, &mut []), Err(Refusal(13)));
     assert_eq!(m.holders(4, &mut []), Ok(0));
+    assert_eq!(m.holders(64, &mut []), Err(Refusal(5)));
     m.renew();
     assert!(m == Monitor::new(), "fresh again");
+}
+
+#[test]
+fn holders_rise() {
+    // Item 3 comes to device 7, process 0 and device 1, in this order.
+    let log = [0x10, 0, 5, 1, 0, 0, 0, 0, 0x10, 0, 5, 19, 0, 7, 3, 0, 0x10, 0, 5, 19, 0, 8, 3, 0, 0x10, 0, 5, 19, 0, 1, 3, 0];
+    let mut m = Monitor::new();
+    assert_eq!(m.run(&log, &mut [0; 4]), Ok(4));
+    let mut out = [99; 4];
+    assert_eq!(m.holders(3, &mut out), Ok(3));
+    assert_eq!(out, [1, 7, 8, 99]);
+    let mut short = [99; 2];
+    assert_eq!(m.holders(3, &mut short), Err(Refusal(13)));
+    assert_eq!(short, [99; 2], "a refused query leaves every element");
 }
 
 #[test]

@@ -1,4 +1,4 @@
--- `fill` writes each member of the set once, from the front of the slice on: after n turns n members stand there and the others are left.
+-- `fill` writes the members of the set, the lowest first: after n turns n of them stand at the front of the slice and the others are left.
 use native.Mathlib.Omega.{arith}
 use borrow.Author.Needs.{needs}
 use Rattle.sets.specs.Sets.{count}

@@ -1,4 +1,4 @@
--- `holders_in` refuses with 5, then with 13 once the holders are counted, and otherwise writes each holder once.
+-- `holders_in` refuses with 5, then with 13 once the holders are counted, and otherwise writes the holders in rising order.
 use native.Mathlib.Omega.{arith}
 use borrow.Author.Needs.{needs}
 use Rattle.store.specs.Maps.{view}
