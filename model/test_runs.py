@@ -1,11 +1,11 @@
-"""The runs of document 01 and the effects of single calls."""
+"""The runs of document 01, those of Paper 1 of document 02, and the effects of single calls."""
 
 from typing import Dict, List, Set, Tuple, Union
 
 from model.checks import Checks, Options
-from model.limits import CONTAINERS, Kind
+from model.limits import CONTAINERS, Kind, Refusal
 from model.records import Call, Rule, confine, encode, forbid, separate
-from model.tracker import State, Tracker
+from model.tracker import State, Tracker, refused
 
 RUN_B_INPUT = bytes.fromhex(
     "10 0005 0100000000 10 0005 0300050018 10 0005 1300180100"
@@ -186,6 +186,32 @@ def test_run_n_fork(checks: Checks, options: Options) -> None:
     checks.equal("run N: answer", more(tracker, [Call(Kind.FORK, 0, 1)]), ["inhibit 0"])
     checks.equal("run N: live", tracker.state.live, {0})
     checks.equal("run N: holdings", holdings(tracker), {8: {1}})
+
+
+# Document 02, Paper 1: item 1 comes to 63, then to 24, to process 15 and last to device 0.
+FALLING = [
+    Call(Kind.START, 15),
+    Call(Kind.CREATE, 15, 0, 0, 63),
+    Call(Kind.CREATE, 15, 1, 1, 24),
+    Call(Kind.LABEL, 0, 63, 1),
+    Call(Kind.LABEL, 0, 24, 1),
+    Call(Kind.READ, 15, 1),
+    Call(Kind.LABEL, 0, 0, 1),
+]
+
+
+def test_holders_rise(checks: Checks, options: Options) -> None:
+    short = refused(Refusal.SLICE_SHORT)
+    for records, item, lent, reply, after in (
+        (FALLING, 1, [100, 101, 102, 103, 104, 105], 4, [0, 23, 24, 63, 104, 105]),
+        (RUN_G, 2, [100, 101, 102, 103], 4, [8, 9, 24, 25]),
+        (RUN_G, 2, [100, 101, 102], short, [100, 101, 102]),
+        (RUN_G, 63, [], 0, []),
+        (RUN_G, 64, [], refused(Refusal.OUT_OF_RANGE), []),
+    ):
+        what = f"holders of item {item} in {len(lent)} elements"
+        checks.equal(f"{what}: reply", allows(records).query_holders(item, lent), reply)
+        checks.equal(f"{what}: slice", lent, after)
 
 
 def test_fork_copies(checks: Checks, options: Options) -> None:

@@ -187,10 +187,10 @@ replied x =
 abbrev ask : List ℕ → ℕ → List ℕ → Reply → List ℕ → Asked
 ask log i lent reply slice = record { log = log; item = i; lent = lent; reply = reply; slice = slice }
 
--- item 1 comes to 63, then to process 15, to 24 and last to device 0
+-- item 1 comes to 63, then to 24, to process 15 (container 23) and last to device 0
 unfoldable pub falling : List ℕ
 falling =
-    call start 15 0 0 0 ++ call create 15 0 0 63 ++ call create 15 1 1 24 ++ call label 0 63 1 0 ++ call read 15 0 0 0 ++ call write 15 1 0 0
+    call start 15 0 0 0 ++ call create 15 0 0 63 ++ call create 15 1 1 24 ++ call label 0 63 1 0 ++ call label 0 24 1 0 ++ call read 15 1 0 0
     ++ call label 0 0 1 0
 
 unfoldable pub asked : List Asked
