@@ -541,7 +541,7 @@ class Tracker:
         return sum(1 << item for item in self.state.items[container])
 
     def query_holders(self, item: int, lent: List[int]) -> Union[int, Answer]:
-        """Put an item's holders, rising, at the front of a lent list; answer how many."""
+        """Put an item's holders, rising (02, Paper 1), at the front of a list; answer how many."""
         if item not in ITEMS:
             return refused(Refusal.OUT_OF_RANGE)
         holders = self.state.holders(item)

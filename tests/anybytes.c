@@ -138,6 +138,12 @@ static void check_log(struct lent *l, const struct pomtvia_monitor *was)
     }
 }
 
+static void lend(struct lent *l)
+{
+    for (unsigned k = 0; k < POMTVIA_CONTAINERS; k++)
+        l->out[k] = 999;
+}
+
 /* The elements of the slice from k on are as they were lent. */
 static void check_lent(const struct lent *l, uint64_t k)
 {
@@ -145,31 +151,30 @@ static void check_lent(const struct lent *l, uint64_t k)
         must(l->out[k] == 999, "elements that the query does not write");
 }
 
-/* The holders of item i, by the sets of all containers: in rising number; a slice that is one too short is left as it was. */
+/* A query for holders that is refused with n leaves all that it was lent. */
+static void check_refused(struct lent *l, unsigned i, size_t room, uint8_t n)
+{
+    uint64_t count = 999;
+    lend(l);
+    uint8_t refusal = pomtvia_holders(&l->monitor, (uint8_t)i, l->out, room, &count);
+    must(refusal == n && count == 999, "a refused query for holders");
+    check_lent(l, 0);
+}
+
+/* The holders of item i, by the sets of all containers: in rising number; with a slice that is one too short, 13. */
 static void check_holders(struct lent *l, const uint64_t *sets, unsigned i)
 {
     uint64_t count = 999, listed = 0;
-    for (unsigned k = 0; k < POMTVIA_CONTAINERS; k++)
-        l->out[k] = 999;
-    uint8_t refusal = pomtvia_holders(&l->monitor, (uint8_t)i, l->out, i < POMTVIA_ITEMS ? POMTVIA_CONTAINERS : 0, &count);
-    if (i == POMTVIA_ITEMS) {
-        must(refusal == POMTVIA_OUT_OF_RANGE && count == 999, "holders of an item above 63");
-        check_lent(l, 0);
-        return;
-    }
+    lend(l);
+    uint8_t refusal = pomtvia_holders(&l->monitor, (uint8_t)i, l->out, POMTVIA_CONTAINERS, &count);
     must(refusal == 0 && count <= POMTVIA_CONTAINERS, "holders of an item");
     for (unsigned c = 0; c < POMTVIA_CONTAINERS; c++)
         if (sets[c] >> i & 1)
             must(listed < count && l->out[listed++] == c, "the queries agree, holders in rising number");
     must(listed == count, "no more holders than the sets have");
     check_lent(l, count);
-    if (count == 0)
-        return;
-    for (uint64_t k = 0; k < count; k++)
-        l->out[k] = 999;
-    refusal = pomtvia_holders(&l->monitor, (uint8_t)i, l->out, count - 1, &listed);
-    must(refusal == POMTVIA_SLICE_SHORT && listed == count, "holders in a slice one too short");
-    check_lent(l, 0);
+    if (count > 0)
+        check_refused(l, i, count - 1, POMTVIA_SLICE_SHORT);
 }
 
 /* The queries on the bytes themselves. */
@@ -181,8 +186,11 @@ static void check_queries(struct lent *l, const struct pomtvia_monitor *was)
         uint8_t refusal = pomtvia_items(&l->monitor, (uint8_t)c, &sets[c]);
         must(refusal == (c < POMTVIA_CONTAINERS ? 0 : POMTVIA_OUT_OF_RANGE), "items of a container");
     }
-    for (unsigned i = 0; i <= POMTVIA_ITEMS; i++)
+    for (unsigned i = 0; i < POMTVIA_ITEMS; i++) {
         check_holders(l, sets, i);
+        check_refused(l, POMTVIA_ITEMS + i, 0, POMTVIA_OUT_OF_RANGE);
+        check_refused(l, POMTVIA_ITEMS + i, POMTVIA_CONTAINERS, POMTVIA_OUT_OF_RANGE);
+    }
     must(!memcmp(&l->monitor, was, sizeof *was) && guarded(l), "a query changes nothing");
 }
 

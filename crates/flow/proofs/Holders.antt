@@ -1,4 +1,4 @@
--- The query for the holders: its list is the one that rises, and what it leaves in the slice.
+-- The query for the holders: its list is the one that rises, what it answers, and what it leaves in the slice.
 use Prim.Native.Nat.{ℕ, zero, suc, _+_, _≤_, _<_, zero-le}
 use native.Mathlib.Omega.{arith}
 use native.Mathlib.Decide.{ℕ-discrete}
@@ -9,13 +9,13 @@ use mathlib.Core.Option.{Option, none, some}
 use lib.Dec.{eqb, ltb}
 use lib.ListN.{length, take, drop}
 use lib.Seq.{length-take-le, length-front, take-append-seam, drop-append-seam}
-use borrow.Author.Tests.{eq-eqb, eqb-true, lt-ltb, ltb-true, ltb-false}
+use borrow.Author.Tests.{eq-eqb, eqb-true, lt-ltb, le-ltb, ltb-true, ltb-false, lt-leb, le-leb}
 use Rattle.sets.specs.Sets.{risingFrom, rising}
 use Rattle.sets.proofs.Rising.{rising-taken, rising-passed}
-use Rattle.flow.specs.Lists.{isIn}
+use Rattle.flow.specs.Lists.{isIn, firstThat}
 use Rattle.flow.specs.Box.{State, holds}
 use Rattle.flow.specs.Queries.{refuse, result, holders, holdersRefusal, replyBy, holdersQuery, sliceBy, holdersSlice}
-use Rattle.flow.specs.Consequences.{Rises, HoldersInOrder, SliceAnswered}
+use Rattle.flow.specs.Consequences.{Rises, HoldersInOrder, HoldersAnswered, SliceAnswered}
 use Rattle.flow.proofs.Bools.{or-elim, or-l, or-r, and-l, and-r, and-i, by, same}
 use Rattle.flow.proofs.TableLaws.{isIn-cons, AllFalse, all-false}
 
@@ -111,6 +111,24 @@ holders-in-order s i l = (
   (λ e. rw e (holders-rise s i, listed s i)),
   (λ p. one-rising l (holders s i) (p .0) (holders-rise s i) (λ c h. listed s i c ∙ sym (p .1 c) ∙ h) (λ c h. p .1 c ∙ sym (listed s i c) ∙ h)),
 )
+
+-- ---- the answer
+module _ (s : State) (i n : ℕ) where
+  pub refusal-range : 64 ≤ i → holdersRefusal s i n ≡ some 5
+  unfolding holdersRefusal firstThat
+  refusal-range h = rw (le-leb 64 i h)
+
+  pub refusal-short : i < 64 → n < length (holders s i) → holdersRefusal s i n ≡ some 13
+  unfolding holdersRefusal firstThat
+  refusal-short h k = rw (lt-leb 64 i h, lt-ltb n (length (holders s i)) k)
+
+  pub refusal-none : i < 64 → length (holders s i) ≤ n → holdersRefusal s i n ≡ none
+  unfolding holdersRefusal firstThat
+  refusal-none h k = rw (lt-leb 64 i h, le-ltb n (length (holders s i)) k)
+
+pub holders-answered : HoldersAnswered
+unfolding HoldersAnswered holdersQuery replyBy
+holders-answered s i n = ((λ h. rw (refusal-range s i n h)), (λ h k. rw (refusal-short s i n h k)), (λ h k. rw (refusal-none s i n h k)))
 
 -- ---- the slice
 room : (s : State) (i n : ℕ) → holdersRefusal s i n ≡ none → length (holders s i) ≤ n

@@ -9,7 +9,7 @@ use mathlib.Core.Option.{none, some}
 use lib.Dec.{ltb}
 use lib.ListN.{getD, length, take, drop}
 use Rattle.flow.specs.Lists.{isIn, Test, _⇒_}
-use Rattle.flow.specs.Box.{containerCount, processCount, descriptorCount, containerOf, Rule, State, itemsOf, holds, descriptor}
+use Rattle.flow.specs.Box.{containerCount, itemCount, processCount, descriptorCount, containerOf, Rule, State, itemsOf, holds, descriptor}
 use Rattle.flow.specs.Links.{linked, used}
 use Rattle.flow.specs.Calls.{Kind, fork, kindNumber, Call, Change, change, after}
 use Rattle.flow.specs.Rules.{broken, Numbered, lowestBroken}
@@ -103,6 +103,15 @@ Rises (x ∷ l) = ((y : ℕ) → isIn y l ≡ true → x < y) × Rises l
 unfoldable pub HoldersInOrder : Type 0
 HoldersInOrder =
     (s : State) (i : ℕ) (l : List ℕ) → l ≡ holders s i ↔ Rises l × ((c : ℕ) → isIn c l ≡ (ltb c containerCount && holds s c i))
+
+-- The query for the holders of an item above 63 is refused with 5. That of any other is refused with 13 where the slice is shorter than the
+-- list, and otherwise answers how many stand in the list.
+unfoldable pub HoldersAnswered : Type 0
+HoldersAnswered =
+    (s : State) (i room : ℕ)
+    → (itemCount ≤ i → holdersQuery s i room ≡ refuse 5)
+    × (i < itemCount → room < length (holders s i) → holdersQuery s i room ≡ refuse 13)
+    × (i < itemCount → length (holders s i) ≤ room → holdersQuery s i room ≡ result (length (holders s i)))
 
 -- The query for the holders leaves the slice as long as it was. Where it answers n, the first n elements are the holders and the others are
 -- as before; where it refuses, all are.

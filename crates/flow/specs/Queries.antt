@@ -19,7 +19,7 @@ unfoldable pub itemsQuery : State → ℕ → Reply
 itemsQuery s c = elim (ltb c containerCount) [ true ↦ result (itemsOf s c) | false ↦ refuse 5 ]
 
 -- ---- the holders of an item, into a lent slice
--- in rising container number (02, Paper 1)
+-- the containers that hold the item, in rising number (02, Paper 1)
 unfoldable pub holders : State → ℕ → List ℕ
 holders s i = rising (λ c. holds s c i)
 

@@ -200,7 +200,7 @@ asked =
     -- the slice just fits; it is one too short, and keeps its numbers
     ∷ ask shared 2 (100 ∷ 101 ∷ 102 ∷ 103 ∷ []) (result 4) (8 ∷ 9 ∷ 24 ∷ 25 ∷ [])
     ∷ ask shared 2 (100 ∷ 101 ∷ 102 ∷ []) (refuse 13) (100 ∷ 101 ∷ 102 ∷ [])
-    -- no holder; 5 before 13
+    -- no holder; an item out of range
     ∷ ask shared 63 [] (result 0) []
     ∷ ask shared 64 [] (refuse 5) []
     ∷ []

@@ -105,7 +105,7 @@ pub extern "C" fn pomtvia_items(m: &Monitor, c: u8, set: &mut u64) -> u8
     )
 }
 
-// The containers that hold item i, at the front of `out`, and in `count` how many they are. 13 where `out` is too short.
+// The containers that hold item i, in rising number, at the front of `out`, and in `count` how many they are. 13 where `out` is too short.
 #[no_mangle]
 pub extern "C" fn pomtvia_holders_in(m: &Monitor, i: u8, out: &mut [u16], count: &mut u64) -> u8
     ensures { λ r. ⌜ HoldersGiven (now (m .entry)) i (now (out .entry)) (now (count .entry)) r (now (out .exit)) (now (count .exit)) ⌝ }

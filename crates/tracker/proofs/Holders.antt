@@ -5,19 +5,18 @@ use native.Mathlib.Numerals.{add-one}
 use native.Mathlib.Decide.{ℕ-discrete}
 use mathlib.Core.Path.{_≡_, refl, sym, ap, ap₂, _∙_}
 use mathlib.Core.Bool.{true, false, _&&_, _||_, and-true, and-false, or-false}
-use mathlib.Core.Option.{none, some}
 use mathlib.Core.List.{List, [], _++_, append-nil}
 use lib.Dec.{eqb, ltb}
 use lib.ListN.{length, take, drop, getD, set, length-set, take-append-drop}
 use lib.Seq.{append-snoc, take-suc-set, drop-set-lt, drop-drop}
-use borrow.Author.Tests.{eq-eqb, ne-eqb, lt-ltb, le-ltb, lt-leb, le-leb, ltb-true, ltb-false}
+use borrow.Author.Tests.{eq-eqb, ne-eqb, lt-ltb, le-ltb, ltb-true, ltb-false}
 use Rattle.sets.specs.Sets.{has, only, _∪_, those, members, without, count, lowest}
 use Rattle.sets.proofs.Members.{those-has, those-lt, without-lt, none-has, only-has, only-lt, union-has, union-lt, set-ext, count-less, count-none, member, turn-below, itself, turn-fewer}
 use Rattle.sets.proofs.Rising.{members-none, members-next, members-those, members-count}
-use Rattle.flow.specs.Lists.{firstThat}
 use Rattle.flow.specs.Box.{State, itemsOf, holds}
-use Rattle.flow.specs.Queries.{refuse, result, itemsQuery, holders, holdersRefusal, replyBy, holdersQuery, sliceBy, holdersSlice}
+use Rattle.flow.specs.Queries.{refuse, result, itemsQuery, holders, replyBy, holdersQuery, sliceBy, holdersSlice}
 use Rattle.flow.proofs.Bools.{by, chosen-l, chosen-r}
+use Rattle.flow.proofs.Holders.{refusal-range, refusal-short, refusal-none}
 use Rattle.tracker.specs.declared.queries.Reply.the-variants.{Result, Refused}
 use Rattle.tracker.specs.Replies.{replyOf, AnswersHolders, withHolder}
 
@@ -156,13 +155,9 @@ module _ (s : State) (i : ℕ) where
   items-refused h = sym (chosen-r (ltb i 64) (result (itemsOf s i)) (refuse 5) (le-ltb i 64 h))
 
   module _ (before : List ℕ) where
-    range : 64 ≤ i → holdersRefusal s i (length before) ≡ some 5
-    unfolding holdersRefusal firstThat
-    range h = rw (le-leb 64 i h)
-
     pub refused-range : 64 ≤ i → AnswersHolders s i before (Refused 5) before
     unfolding replyOf holdersQuery replyBy holdersSlice sliceBy
-    refused-range h = record { answer = rw (range h); slice = rw (range h) refl }
+    refused-range h = let e = refusal-range s i (length before) h in record { answer = rw e; slice = rw e refl }
 
     -- the set x is found and its n members are counted
     module _ (h : i < 64) (x n : ℕ) (found : x ≡ those (λ c. holds s c (i % 64))) (counted : n ≡ count x) where
@@ -176,18 +171,12 @@ module _ (s : State) (i : ℕ) where
       is-length : n ≡ length (holders s i)
       is-length = counted ∙ sym (members-count x (rw is-set (those-lt (λ c. holds s c i)))) ∙ ap length is-list
 
-      short : length before < n → holdersRefusal s i (length before) ≡ some 13
-      unfolding holdersRefusal firstThat
-      short l = rw (lt-leb 64 i h, ← is-length, lt-ltb (length before) n l)
-
       pub refused-short : length before < n → AnswersHolders s i before (Refused 13) before
       unfolding replyOf holdersQuery replyBy holdersSlice sliceBy
-      refused-short l = record { answer = rw (short l); slice = rw (short l) refl }
-
-      fitting : n ≤ length before → holdersRefusal s i (length before) ≡ none
-      unfolding holdersRefusal firstThat
-      fitting l = rw (lt-leb 64 i h, ← is-length, le-ltb (length before) n l)
+      refused-short l = let e = refusal-short s i (length before) h (omega (arith, is-length)) in record { answer = rw e; slice = rw e refl }
 
       pub holders-given : (now : List ℕ) → n ≤ length before → now ≡ members x ++ drop (count x) before → AnswersHolders s i before (Result n) now
       unfolding replyOf holdersQuery replyBy holdersSlice sliceBy
-      holders-given now l f = record { answer = rw (fitting l, ← is-length); slice = rw (fitting l, ← is-length, ← is-list, counted) f }
+      holders-given now l f =
+          let e = refusal-none s i (length before) h (omega (arith, is-length)) in
+          record { answer = rw (e, ← is-length); slice = rw (e, ← is-length, ← is-list, counted) f }

@@ -78,7 +78,7 @@ impl Tracker {
         queries::items_in(&words, c)
     }
 
-    // The containers that hold item i, at the front of `out`, and how many they are. A refusal leaves `out` as it was.
+    // The containers that hold item i, in rising number, at the front of `out`, and how many they are. A refusal leaves `out` as it was.
     pub fn holders(self, i: u8, out: &mut [u16]) -> Reply
         ensures { λ r. ⌜ ((rules : List Rule) → AnswersHolders (state (view self) rules) i (now (out .entry)) r (now (out .exit))) ⌝ }
     {

@@ -114,7 +114,7 @@ fn short_slices_are_refused() {
     assert_eq!(m.items(8), Ok(8));
     assert_eq!(m.holders(3, &mut []), Err(Refusal(13)));
     assert_eq!(m.holders(4, &mut []), Ok(0));
-    assert_eq!(m.holders(64, &mut []), Err(Refusal(5)));
+    assert_eq!(m.holders(67, &mut []), Err(Refusal(5)));
     m.renew();
     assert!(m == Monitor::new(), "fresh again");
 }
