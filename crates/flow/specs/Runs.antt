@@ -6,7 +6,7 @@ use mathlib.Core.List.{List, [], _∷_, _++_, map}
 use lib.Dec.{eqb}
 use lib.ListN.{length}
 use Rattle.flow.specs.Lists.{table}
-use Rattle.flow.specs.Box.{fresh, itemsOf}
+use Rattle.flow.specs.Box.{State, fresh, itemsOf}
 use Rattle.flow.specs.Calls.{Kind, start, openName, create, pipe, device, dup, close, read, write, truncate, mapRead, mapBoth, unmap, unlink, rename, link, fork, exit, label, kindNumber}
 use Rattle.flow.specs.Verdicts.{Answer, refused, rule, allow, inhibit, modify, runLog}
 use Rattle.flow.specs.Queries.{Reply, refuse, result, holdersQuery, holdersSlice}
@@ -164,28 +164,30 @@ unfoldable pub Further : Type 0
 Further = map outcomeOf further ≡ further
 
 -- ---- 02, Paper 1: holders in rising container number
--- an item asked for after a log with a lent slice, the reply, and the slice after it
-pub record Asked : Type 0 where
-  pub log : List ℕ
+-- a query for the holders of an item with a lent slice, the reply, and the slice after it
+pub record Query : Type 0 where
   pub item : ℕ
   pub lent : List ℕ
   pub reply : Reply
   pub slice : List ℕ
 
--- reply and slice as the definitions have them
-unfoldable pub replied : Asked → Asked
-replied x =
-    let s = runLog fresh (x .log) .state in
-    record {
-      log = x .log;
-      item = x .item;
-      lent = x .lent;
-      reply = holdersQuery s (x .item) (length (x .lent));
-      slice = holdersSlice s (x .item) (x .lent);
-    }
+-- a log, and queries at its end
+pub record Asked : Type 0 where
+  pub log : List ℕ
+  pub queries : List Query
 
-abbrev ask : List ℕ → ℕ → List ℕ → Reply → List ℕ → Asked
-ask log i lent reply slice = record { log = log; item = i; lent = lent; reply = reply; slice = slice }
+-- reply and slice as the definitions have them
+unfoldable pub repliedIn : State → Query → Query
+repliedIn s q = record { item = q .item; lent = q .lent; reply = holdersQuery s (q .item) (length (q .lent)); slice = holdersSlice s (q .item) (q .lent) }
+
+unfoldable pub replied : Asked → Asked
+replied x = record { log = x .log; queries = map (repliedIn (runLog fresh (x .log) .state)) (x .queries) }
+
+abbrev ask : List ℕ → List Query → Asked
+ask log queries = record { log = log; queries = queries }
+
+abbrev query : ℕ → List ℕ → Reply → List ℕ → Query
+query i lent reply slice = record { item = i; lent = lent; reply = reply; slice = slice }
 
 -- item 1 comes to 63, then to 24, to process 15 (container 23) and last to device 0
 unfoldable pub falling : List ℕ
@@ -196,13 +198,15 @@ falling =
 unfoldable pub asked : List Asked
 asked =
     -- in rising number, whatever the order in which they came to hold it; elements past these keep their numbers
-    ask falling 1 (100 ∷ 101 ∷ 102 ∷ 103 ∷ 104 ∷ 105 ∷ []) (result 4) (0 ∷ 23 ∷ 24 ∷ 63 ∷ 104 ∷ 105 ∷ [])
-    -- the slice just fits; it is one too short, and keeps its numbers
-    ∷ ask shared 2 (100 ∷ 101 ∷ 102 ∷ 103 ∷ []) (result 4) (8 ∷ 9 ∷ 24 ∷ 25 ∷ [])
-    ∷ ask shared 2 (100 ∷ 101 ∷ 102 ∷ []) (refuse 13) (100 ∷ 101 ∷ 102 ∷ [])
-    -- no holder; an item out of range
-    ∷ ask shared 63 [] (result 0) []
-    ∷ ask shared 64 [] (refuse 5) []
+    ask falling (query 1 (100 ∷ 101 ∷ 102 ∷ 103 ∷ 104 ∷ 105 ∷ []) (result 4) (0 ∷ 23 ∷ 24 ∷ 63 ∷ 104 ∷ 105 ∷ []) ∷ [])
+    -- the slice just fits; it is one too short, and keeps its numbers; no holder; an item out of range
+    ∷ ask
+    shared
+    (query 2 (100 ∷ 101 ∷ 102 ∷ 103 ∷ []) (result 4) (8 ∷ 9 ∷ 24 ∷ 25 ∷ [])
+    ∷ query 2 (100 ∷ 101 ∷ 102 ∷ []) (refuse 13) (100 ∷ 101 ∷ 102 ∷ [])
+    ∷ query 63 [] (result 0) []
+    ∷ query 64 [] (refuse 5) []
+    ∷ [])
     ∷ []
 
 unfoldable pub HoldersAsked : Type 0
