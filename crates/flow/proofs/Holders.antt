@@ -6,28 +6,18 @@ use mathlib.Core.Path.{_≡_, refl, sym, ap, ap₂, _∙_}
 use mathlib.Core.Bool.{Bool, true, false, _&&_, true≢false}
 use mathlib.Core.List.{List, [], _∷_}
 use mathlib.Core.Option.{Option, none, some}
-use lib.Dec.{eqb, ltb}
-use lib.ListN.{length, take, drop}
+use lib.Dec.{ltb}
+use lib.ListN.{length, drop}
 use lib.Seq.{length-take-le, length-front, take-append-seam, drop-append-seam}
-use borrow.Author.Tests.{eq-eqb, eqb-true, lt-ltb, le-ltb, ltb-true, ltb-false, lt-leb, le-leb}
+use borrow.Author.Tests.{lt-ltb, le-ltb, ltb-true, ltb-false, lt-leb, le-leb}
 use Rattle.sets.specs.Sets.{risingFrom, rising}
 use Rattle.sets.proofs.Rising.{rising-taken, rising-passed}
 use Rattle.flow.specs.Lists.{isIn, firstThat}
 use Rattle.flow.specs.Box.{State, holds}
-use Rattle.flow.specs.Queries.{refuse, result, holders, holdersRefusal, replyBy, holdersQuery, sliceBy, holdersSlice}
-use Rattle.flow.specs.Consequences.{Rises, HoldersInOrder, HoldersAnswered, SliceAnswered}
-use Rattle.flow.proofs.Bools.{or-elim, or-l, or-r, and-l, and-r, and-i, by, same}
-use Rattle.flow.proofs.TableLaws.{isIn-cons, AllFalse, all-false}
-
--- ---- what stands in a list
-in-front : (x : ℕ) (l : List ℕ) → isIn x (x ∷ l) ≡ true
-in-front x l = isIn-cons x x l ∙ or-l (eqb x x) (isIn x l) (eq-eqb x x refl)
-
-in-rest : (c x : ℕ) (l : List ℕ) → isIn c l ≡ true → isIn c (x ∷ l) ≡ true
-in-rest c x l h = isIn-cons c x l ∙ or-r (eqb c x) (isIn c l) h
-
-in-cases : (c x : ℕ) (l : List ℕ) {P : Type 0} → (c ≡ x → P) → (isIn c l ≡ true → P) → isIn c (x ∷ l) ≡ true → P
-in-cases c x l f g h = or-elim (eqb c x) (isIn c l) (λ e. f (eqb-true c x e)) g (sym (isIn-cons c x l) ∙ h)
+use Rattle.flow.specs.Queries.{holders, holdersRefusal, replyBy, holdersQuery, sliceBy, holdersSlice}
+use Rattle.flow.specs.Consequences.{Rises, HoldersInOrder, HoldersAnswered, Leaves, SliceAnswered}
+use Rattle.flow.proofs.Bools.{and-l, and-r, and-i, by, same}
+use Rattle.flow.proofs.TableLaws.{in-front, in-rest, in-cases, AllFalse, all-false}
 
 -- ---- two rising lists of the same numbers are the same
 abbrev Alike : List ℕ → List ℕ → Type 0
@@ -136,22 +126,16 @@ unfolding holdersRefusal AllFalse
 room s i n e = ltb-false n (length (holders s i)) (all-false _ e .1 .0)
 
 pub slice-answered : SliceAnswered
-unfolding SliceAnswered holdersQuery holdersSlice replyBy sliceBy
+unfolding SliceAnswered Leaves holdersQuery holdersSlice replyBy sliceBy
 slice-answered s i before = by-refusal (holdersRefusal s i (length before)) (room s i (length before))
   where
     l : List ℕ
     l = holders s i
 
-    Left : Option ℕ → Type 0
-    Left o =
-        (length (sliceBy s i o before) ≡ length before)
-        × ((n : ℕ) → replyBy s i o ≡ result n → (take n (sliceBy s i o before) ≡ l) × (drop n (sliceBy s i o before) ≡ drop n before))
-        × ((n : ℕ) → replyBy s i o ≡ refuse n → sliceBy s i o before ≡ before)
-
-    by-refusal : (o : Option ℕ) → (o ≡ none → length l ≤ length before) → Left o
-    by-refusal (some k) fits = (refl, (λ n e. absurd (let z : _≡_ {A = ℕ} 0 1 = cc in let y : ⊥ = omega arith in y)), (λ n e. refl))
+    by-refusal : (o : Option ℕ) → (o ≡ none → length l ≤ length before)
+        → (length (sliceBy s i o before) ≡ length before) × Leaves (replyBy s i o) l before (sliceBy s i o before)
+    by-refusal (some k) fits = (refl, refl)
     by-refusal none fits = (
       length-front before l (length l) (sym (length-take-le (length l) before (fits refl))),
-      (λ n e. let m : length l ≡ n = cc in rw (← m) (take-append-seam l (drop (length l) before), drop-append-seam l (drop (length l) before))),
-      (λ n e. absurd (let z : _≡_ {A = ℕ} 0 1 = cc in let y : ⊥ = omega arith in y)),
+      (take-append-seam l (drop (length l) before), drop-append-seam l (drop (length l) before)),
     )

@@ -13,18 +13,19 @@ use Rattle.flow.specs.Queries.{holders, holdersRefusal, replyBy, holders
 use Rattle.flow.specs.Contents.{flowed, changed, contentsAfter, linkedTo, stepContents, stepState, stateAt, runAt, labelOf, itemLabelled}
 use Rattle.flow.specs.Runs.{outcomeOf, call, shared, filed, renamed, spare, thirtyTwo, allowed, starred, Starred, further, Further, total, remembered, copying, carried, chained, Moves, repliedIn, replied, falling, asked, HoldersAsked}
 
+-- together, since each would unfold the same definitions
+all-runs : Starred × Further × HoldersAsked × Moves
+unfolding has only _∪_ _∩_ bit thoseFrom those without tableFrom table someBelow isIn firstThat isDevice isProcess isFile fresh itemsOf feedersOf feeds descriptor name isTarget linked meets through throughEach closure reach given mapped used kindNumber withLive withDescriptors withNames withLinks putBlock block isFed tablesBy flowBy change moved ended itemsAfter after holds breaks broken firstBroken lowestBroken forbids byteAt tagOf statedLength recordLength valueOf cutShort knownTag tagLength wrongLength kinds kindOf callBy callFrom callIn conditionOf numberFrom setIn ruleWith ruleIn frameTests contentOf readingBy reading callRead callOf recordsIn recordsOf inRange ranges fieldsFit isLive isOpen isBound dead taken missing sameDescriptors noFile callTests itemsFit substituteFits sameItems fieldTests ruleTests noTables isNone isKind diversion mayDivert breaksNone stopped verdictBy verdict outcomeOfCall outcomeOfRule outcomeRead outcome answerOf answer withRule stateAfter next answerAll runLog flowed changed contentsAfter linkedTo stepContents stepState stateAt runAt labelOf itemLabelled outcomeOf call shared filed renamed spare thirtyTwo allowed starred Starred total remembered copying carried chained Moves further Further repliedIn replied falling asked HoldersAsked holders holdersRefusal replyBy holdersQuery sliceBy holdersSlice risingFrom rising
+all-runs = ((refl, refl), refl, refl, (refl, refl, refl, refl, refl, refl, refl, refl, refl, refl))
+
 pub starred-runs : Starred
-unfolding has only _∪_ _∩_ bit thoseFrom those without tableFrom table someBelow isIn firstThat isDevice isProcess isFile fresh itemsOf feedersOf feeds descriptor name isTarget linked meets through throughEach closure reach given mapped used kindNumber withLive withDescriptors withNames withLinks putBlock block isFed tablesBy flowBy change moved ended itemsAfter after holds breaks broken firstBroken lowestBroken forbids byteAt tagOf statedLength recordLength valueOf cutShort knownTag tagLength wrongLength kinds kindOf callBy callFrom callIn conditionOf numberFrom setIn ruleWith ruleIn frameTests contentOf readingBy reading callRead callOf recordsIn recordsOf inRange ranges fieldsFit isLive isOpen isBound dead taken missing sameDescriptors noFile callTests itemsFit substituteFits sameItems fieldTests ruleTests noTables isNone isKind diversion mayDivert breaksNone stopped verdictBy verdict outcomeOfCall outcomeOfRule outcomeRead outcome answerOf answer withRule stateAfter next answerAll runLog flowed changed contentsAfter linkedTo stepContents stepState stateAt runAt labelOf itemLabelled outcomeOf call shared filed renamed spare thirtyTwo allowed starred Starred total remembered copying carried chained Moves further Further
-starred-runs = (refl, refl)
+starred-runs = all-runs .0
 
 pub further-checks : Further
-unfolding has only _∪_ _∩_ bit thoseFrom those without tableFrom table someBelow isIn firstThat isDevice isProcess isFile fresh itemsOf feedersOf feeds descriptor name isTarget linked meets through throughEach closure reach given mapped used kindNumber withLive withDescriptors withNames withLinks putBlock block isFed tablesBy flowBy change moved ended itemsAfter after holds breaks broken firstBroken lowestBroken forbids byteAt tagOf statedLength recordLength valueOf cutShort knownTag tagLength wrongLength kinds kindOf callBy callFrom callIn conditionOf numberFrom setIn ruleWith ruleIn frameTests contentOf readingBy reading callRead callOf recordsIn recordsOf inRange ranges fieldsFit isLive isOpen isBound dead taken missing sameDescriptors noFile callTests itemsFit substituteFits sameItems fieldTests ruleTests noTables isNone isKind diversion mayDivert breaksNone stopped verdictBy verdict outcomeOfCall outcomeOfRule outcomeRead outcome answerOf answer withRule stateAfter next answerAll runLog flowed changed contentsAfter linkedTo stepContents stepState stateAt runAt labelOf itemLabelled outcomeOf call shared filed renamed spare thirtyTwo allowed starred Starred total remembered copying carried chained Moves further Further
-further-checks = refl
+further-checks = all-runs .1
 
 pub holders-asked : HoldersAsked
-unfolding has only _∪_ _∩_ bit thoseFrom those without tableFrom table someBelow isIn firstThat isDevice isProcess isFile fresh itemsOf feedersOf feeds descriptor name isTarget linked meets through throughEach closure reach given mapped used kindNumber withLive withDescriptors withNames withLinks putBlock block isFed tablesBy flowBy change moved ended itemsAfter after holds breaks broken firstBroken lowestBroken forbids byteAt tagOf statedLength recordLength valueOf cutShort knownTag tagLength wrongLength kinds kindOf callBy callFrom callIn conditionOf numberFrom setIn ruleWith ruleIn frameTests contentOf readingBy reading callRead callOf recordsIn recordsOf inRange ranges fieldsFit isLive isOpen isBound dead taken missing sameDescriptors noFile callTests itemsFit substituteFits sameItems fieldTests ruleTests noTables isNone isKind diversion mayDivert breaksNone stopped verdictBy verdict outcomeOfCall outcomeOfRule outcomeRead outcome answerOf answer withRule stateAfter next answerAll runLog call shared repliedIn replied falling asked HoldersAsked holders holdersRefusal replyBy holdersQuery sliceBy holdersSlice risingFrom rising
-holders-asked = refl
+holders-asked = all-runs .2
 
 pub contents-move : Moves
-unfolding has only _∪_ _∩_ bit thoseFrom those without tableFrom table someBelow isIn firstThat isDevice isProcess isFile fresh itemsOf feedersOf feeds descriptor name isTarget linked meets through throughEach closure reach given mapped used kindNumber withLive withDescriptors withNames withLinks putBlock block isFed tablesBy flowBy change moved ended itemsAfter after holds breaks broken firstBroken lowestBroken forbids byteAt tagOf statedLength recordLength valueOf cutShort knownTag tagLength wrongLength kinds kindOf callBy callFrom callIn conditionOf numberFrom setIn ruleWith ruleIn frameTests contentOf readingBy reading callRead callOf recordsIn recordsOf inRange ranges fieldsFit isLive isOpen isBound dead taken missing sameDescriptors noFile callTests itemsFit substituteFits sameItems fieldTests ruleTests noTables isNone isKind diversion mayDivert breaksNone stopped verdictBy verdict outcomeOfCall outcomeOfRule outcomeRead outcome answerOf answer withRule stateAfter next answerAll runLog flowed changed contentsAfter linkedTo stepContents stepState stateAt runAt labelOf itemLabelled outcomeOf call shared filed renamed spare thirtyTwo allowed starred Starred total remembered copying carried chained Moves further Further
-contents-move = (refl, refl, refl, refl, refl, refl, refl, refl, refl, refl)
+contents-move = all-runs .3

@@ -10,9 +10,9 @@ use mathlib.Core.Option.{Option, none, some}
 use lib.Dec.{ltb, eqb}
 use lib.ListN.{getD, length, set}
 use lib.Seq.{getD-set-same, getD-set-other, set-out, ext-getD}
-use borrow.Author.Tests.{ltb-true, ltb-false, eq-eqb}
+use borrow.Author.Tests.{ltb-true, ltb-false, eq-eqb, eqb-true}
 use Rattle.flow.specs.Lists.{tableFrom, table, someBelow, isIn, Test, _⇒_, firstThat, isNone}
-use Rattle.flow.proofs.Bools.{by, no-both, choice, or-choice}
+use Rattle.flow.proofs.Bools.{or-elim, or-l, or-r, by, no-both, choice, or-choice}
 
 tableFrom-at : {A : Type 0} (n k : ℕ) (f : ℕ → A) (i : ℕ) (d : A) → i < n → getD (tableFrom n k f) i d ≡ f (k + i)
 unfolding tableFrom
@@ -89,12 +89,20 @@ pub isIn-cons : (c x : ℕ) (l : List ℕ) → isIn c (x ∷ l) ≡ (eqb c x || 
 unfolding isIn
 isIn-cons c x l = or-choice (eqb c x) (isIn c l)
 
+pub in-front : (x : ℕ) (l : List ℕ) → isIn x (x ∷ l) ≡ true
+in-front x l = isIn-cons x x l ∙ or-l (eqb x x) (isIn x l) (eq-eqb x x refl)
+
+pub in-rest : (c x : ℕ) (l : List ℕ) → isIn c l ≡ true → isIn c (x ∷ l) ≡ true
+in-rest c x l h = isIn-cons c x l ∙ or-r (eqb c x) (isIn c l) h
+
+pub in-cases : (c x : ℕ) (l : List ℕ) {P : Type 0} → (c ≡ x → P) → (isIn c l ≡ true → P) → isIn c (x ∷ l) ≡ true → P
+in-cases c x l f g h = or-elim (eqb c x) (isIn c l) (λ e. f (eqb-true c x e)) g (sym (isIn-cons c x l) ∙ h)
+
 -- an entry does
 pub is-in : (l : List ℕ) (k d : ℕ) → (getD l k d ≡ d → ⊥) → isIn (getD l k d) l ≡ true
-unfolding isIn
 is-in [] k d h = absurd (h refl)
-is-in (x ∷ xs) zero d h = choice (λ b. b ≡ true) (eqb x x) true (isIn x xs) (λ e. refl) (λ e. no-both (eq-eqb x x refl) e)
-is-in (x ∷ xs) (suc k) d h = choice (λ b. b ≡ true) (eqb (getD xs k d) x) true (isIn (getD xs k d) xs) (λ e. refl) (λ e. is-in xs k d h)
+is-in (x ∷ xs) zero d h = in-front x xs
+is-in (x ∷ xs) (suc k) d h = in-rest (getD xs k d) x xs (is-in xs k d h)
 
 -- ---- an element after `set`
 pub set-cases : {A : Type 0} (l : List A) (i : ℕ) (a : A) (k : ℕ) (d : A) (P : A → Type 0) → P a → P (getD l k d) → P (getD (set l i a) k d)

@@ -16,7 +16,7 @@ use Rattle.flow.specs.Rules.{broken, Numbered, lowestBroken}
 use Rattle.flow.specs.Records.{recordLength, kindOf, callOf, recordsOf}
 use Rattle.flow.specs.Refusals.{recordTests, refusal}
 use Rattle.flow.specs.Verdicts.{allows, inhibits, modifies, diversion, mayDivert, breaksNone, outcome, refused, allow, inhibit, answer, next, answerAll, runLog}
-use Rattle.flow.specs.Queries.{refuse, result, holders, holdersQuery, holdersSlice}
+use Rattle.flow.specs.Queries.{Reply, refuse, result, holders, holdersQuery, holdersSlice}
 use Rattle.flow.specs.Contents.{Step, entry, stateAt}
 
 -- a record is refused with the first number of its tests that applies, and every other record is accepted
@@ -113,16 +113,17 @@ HoldersAnswered =
     × (i < itemCount → room < length (holders s i) → holdersQuery s i room ≡ refuse 13)
     × (i < itemCount → length (holders s i) ≤ room → holdersQuery s i room ≡ result (length (holders s i)))
 
--- The query for the holders leaves the slice as long as it was. Where it answers n, the first n elements are the holders and the others are
--- as before; where it refuses, all are.
+-- where n is answered, the first n elements of the slice are the list l and the others are as before; where it is refused, all are
+unfoldable pub Leaves : Reply → List ℕ → List ℕ → List ℕ → Type 0
+Leaves (result n) l before now = (take n now ≡ l) × (drop n now ≡ drop n before)
+Leaves (refuse n) l before now = now ≡ before
+
+-- so it is with the query for the holders, and the slice stays as long as it was
 unfoldable pub SliceAnswered : Type 0
 SliceAnswered =
     (s : State) (i : ℕ) (before : List ℕ)
     → (let now = holdersSlice s i before in
-    let reply = holdersQuery s i (length before) in
-    (length now ≡ length before)
-    × ((n : ℕ) → reply ≡ result n → (take n now ≡ holders s i) × (drop n now ≡ drop n before))
-    × ((n : ℕ) → reply ≡ refuse n → now ≡ before))
+    (length now ≡ length before) × Leaves (holdersQuery s i (length before)) (holders s i) before now)
 
 -- The records of a log are steps: after any steps, a log leaves the state that they have with its records added.
 unfoldable pub LogIsSteps : Type 0
