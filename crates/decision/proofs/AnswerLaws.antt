@@ -13,7 +13,7 @@ use Rattle.flow.specs.Rules.{broken, lowestBroken}
 use Rattle.flow.specs.Records.{Reading, unreadable, aCall, aRule, reading}
 use Rattle.flow.specs.Refusals.{callTests, fieldTests, ruleTests, testsOf}
 use Rattle.flow.specs.Verdicts.{refuses, loads, allows, inhibits, modifies, verdictBy, verdict, stopped, outcomeOfCall, outcomeOfRule, outcomeOf, answerOf, withRule, stateAfter}
-use Rattle.flow.proofs.TableLaws.{AllFalse, all-false}
+use Rattle.flow.proofs.TableLaws.{AllNone, all-none, untrue}
 use Rattle.flow.proofs.Judging.{none-broken, one-more}
 use Rattle.records.specs.declared.Record.{Record}
 use Rattle.records.specs.Reading.{readingOf}
@@ -103,8 +103,8 @@ module _ (m : Monitor) (q : Call) (e : firstThat (callTests (view m .tables) (so
 -- ---- a rule
 module _ (m t : Monitor) (r : Rule) (e : firstThat (ruleTests (view m) r) ≡ none) where
   unbroken : broken (view m) r ≡ false
-  unfolding ruleTests fieldTests AllFalse
-  unbroken = all-false (ruleTests (view m) r) e .1 .1 .1 .1 .0
+  unfolding ruleTests fieldTests AllNone
+  unbroken = untrue _ 12 (all-none (ruleTests (view m) r) e .1 .1 .1 .1 .0)
 
   loaded-sound : view t ≡ withRule (view m) r → Sound m → Sound t
   unfolding Sound lowestBroken withRule holds itemsOf

@@ -4,7 +4,7 @@ use native.Mathlib.Omega.{arith}
 use mathlib.Core.Path.{_≡_, refl, sym, ap, _∙_}
 use mathlib.Core.List.{List, map}
 use lib.ListN.{List·getD-map, length-map}
-use Rattle.flow.specs.Lists.{firstThat}
+use Rattle.flow.specs.Lists.{_⇒_, firstThat}
 use Rattle.flow.specs.Records.{byteAt, tagOf, statedLength, recordLength, valueOf, cutShort, knownTag, tagLength, wrongLength, callFrom, callIn, aCall, frameTests, contentOf, readingBy, reading}
 use Rattle.flow.specs.Contents.{entry, memory, stepAt}
 use Rattle.decision.specs.declared.Monitor.{Monitor}
@@ -15,7 +15,7 @@ use Rattle.decision.specs.Chains.{callRecord, CallIsRecord, Event, given
 use Rattle.decision.proofs.TwoRuns.{demand3-of-code}
 
 read-back : (kind p a b c : ℕ) → reading (callRecord kind p a b c) ≡ aCall (callFrom kind p a b c)
-unfolding callRecord reading readingBy frameTests contentOf callIn firstThat byteAt tagOf statedLength recordLength valueOf cutShort knownTag tagLength wrongLength
+unfolding callRecord reading readingBy frameTests contentOf callIn firstThat _⇒_ byteAt tagOf statedLength recordLength valueOf cutShort knownTag tagLength wrongLength
 read-back kind p a b c = refl
 
 pub call-is-record : CallIsRecord

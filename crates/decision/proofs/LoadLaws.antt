@@ -42,7 +42,7 @@ module _ (m : Monitor) (r : RuleFields) (n : ℕ) (e : refusalFrom n ≡ firstTh
     by-state x y f g = first-none (fieldTests (ruleFrom r)) _ (number-none n _ e z) ∙ rw (f, g) refl
 
     pub rule-full : 32 ≤ k → Answers m (aRule (ruleFrom r)) (record { answer = Refused 11; monitor = m })
-    unfolding firstThat
+    unfolding firstThat _⇒_
     rule-full l = refused-as m (aRule (ruleFrom r)) 11 (by-state true (broken (view m) (ruleFrom r)) (le-leb 32 (length (view m .rules)) (rw loaded-count l)) refl)
 
     module _ (l : k < 32) (b : Bool) (f : b ≡ brokenIn (itemsIn (m .words)) (conditionFrom r)) where
@@ -54,7 +54,7 @@ module _ (m : Monitor) (r : RuleFields) (n : ℕ) (e : refusalFrom n ≡ firstTh
       room = lt-leb 32 (length (view m .rules)) (rw loaded-count l)
 
       pub rule-broken : b ≡ true → Answers m (aRule (ruleFrom r)) (record { answer = Refused 12; monitor = m })
-      unfolding firstThat
+      unfolding firstThat _⇒_
       rule-broken h = refused-as m (aRule (ruleFrom r)) 12 (by-state false true room (broken-is ∙ h))
 
       stored : (s g : List ℕ) → rulesOf s g ≡ rulesOf (m .sets) (m .fields) ++ (ruleFrom r ∷ []) → view (monitor (m .words) (m .descriptors) (m .names) s g) ≡ withRule (view m) (ruleFrom r)
@@ -63,7 +63,7 @@ module _ (m : Monitor) (r : RuleFields) (n : ℕ) (e : refusalFrom n ≡ firstTh
 
       pub rule-loaded : b ≡ false → (s g : List ℕ) → rulesOf s g ≡ rulesOf (m .sets) (m .fields) ++ (ruleFrom r ∷ [])
           → Answers m (aRule (ruleFrom r)) (record { answer = Loaded k; monitor = monitor (m .words) (m .descriptors) (m .names) s g })
-      unfolding testsOf firstThat
+      unfolding testsOf firstThat _⇒_
       rule-loaded h s g v = loaded-as m _ (ruleFrom r) (by-state false false room (broken-is ∙ h)) k (sym loaded-count) (stored s g v)
 
     -- what `store` asks

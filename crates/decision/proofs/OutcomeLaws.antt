@@ -12,7 +12,7 @@ use lib.ListN.{length, set, length-set, length-append}
 use borrow.Author.Tests.{ltb-true, leb-false, not-false}
 use Rattle.sets.specs.Sets.{only, _∪_}
 use Rattle.sets.proofs.Members.{without-lt, only-lt, union-lt}
-use Rattle.flow.specs.Lists.{Test, _⇒_, firstThat}
+use Rattle.flow.specs.Lists.{firstThat}
 use Rattle.flow.specs.Box.{Rule, Tables, State, name, closed}
 use Rattle.flow.specs.Calls.{Kind, start, openName, create, pipe, device, dup, close, read, write, truncate, mapRead, mapBoth, unmap, unlink, rename, link, fork, exit, label, Call, withLive, withDescriptors, withNames, withLinks, tablesBy, change, after}
 use Rattle.flow.specs.Rules.{broken, Numbered, firstBroken, lowestBroken}
@@ -20,7 +20,8 @@ use Rattle.flow.specs.Records.{tagOf, callTag, valueOf, ruleIn, Reading, unread
 use Rattle.flow.specs.Refusals.{inRange, ranges, fieldsFit, fieldTests, callTests, ruleTests}
 use Rattle.flow.specs.Verdicts.{Outcome, refuses, loads, allows, inhibits, modifies, diversion, mayDivert, breaksNone, stopped, verdictBy, verdict, outcomeOfCall, outcomeOfRule, outcomeOf, answerOf, withRule, stateAfter}
 use Rattle.flow.proofs.Bools.{and-l, and-r, choice}
-use Rattle.flow.proofs.TableLaws.{AllFalse, all-false, first-of-none}
+use Rattle.flow.proofs.TableLaws.{AllNone, all-none, first-of-none, untrue}
+use Rattle.flow.proofs.Refused.{frame-byte, call-byte, rule-byte}
 use Rattle.flow.proofs.Accepted.{fits-process, fits-a}
 use Rattle.rules.proofs.LoadingLaws.{fit-substitute}
 use Rattle.decision.specs.Logs.{inBytes}
@@ -66,17 +67,6 @@ module _ (s : Tables) (p a b c : ℕ) where
   steady-after fork h = record { live = added-lt a (ltb-true a 16 (fits-a (ranges fork) (call fork) h)); names = refl }
   steady-after exit h = record { live = λ l. without-lt (s .live) p; names = refl }
   steady-after label h = kept refl refl
-
--- ---- the tests' numbers are bytes
-smallTests : List Test → Bool
-smallTests [] = true
-smallTests ((b ⇒ n) ∷ ts) = ltb n 256 && smallTests ts
-
-first-small : (ts : List Test) (n : ℕ) → smallTests ts ≡ true → firstThat ts ≡ some n → n < 256
-unfolding smallTests firstThat
-first-small [] n h e = absurd (let z : _≡_ {A = ℕ} 0 1 = cc in let y : ⊥ = omega arith in y)
-first-small ((true ⇒ k) ∷ ts) n h e = let q : k ≡ n = cc in rw (← q) (ltb-true k 256 (and-l _ (smallTests ts) h))
-first-small ((false ⇒ k) ∷ ts) n h e = first-small ts n (and-r (ltb k 256) _ h) e
 
 -- the lowest broken rule, where it has a number below 256 and diverts to a container
 SmallRule : Option Numbered → Type 0
@@ -130,12 +120,12 @@ module _ (Q : Rule → Type 0) where
   after-ruled s (modifies n c x) f h = h
 
   pub reading-fits : (bytes : List ℕ) → Q (ruleIn (tagOf bytes) (valueOf bytes)) → ReadingFits (reading bytes)
-  unfolding reading readingBy ReadingFits contentOf frameTests smallTests
+  unfolding reading readingBy ReadingFits contentOf
   reading-fits bytes h = go (firstThat (frameTests bytes)) refl
     where
       go : (o : Option ℕ) → firstThat (frameTests bytes) ≡ o → ReadingFits (readingBy bytes o)
       go none e = choice ReadingFits (eqb (tagOf bytes) callTag) _ _ (λ x. tt) (λ x. h)
-      go (some n) e = first-small (frameTests bytes) n refl e
+      go (some n) e = frame-byte bytes n e
 
   module _ (s : State) (ruled : Ruled (s .rules)) where
     stopped-fits : (q : Call) (n : ℕ) (r : Rule) → n < 256 → r .substitute < 64 → OutcomeFits s (stopped s q n r)
@@ -151,22 +141,22 @@ module _ (Q : Rule → Type 0) where
     verdict-fits q (some x) h l = stopped-fits q (x .number) (x .rule) (l .0) (l .1)
 
     call-fits : (q : Option Call) (o : Option ℕ) → firstThat (callTests (s .tables) q) ≡ o → OutcomeFits s (outcomeOfCall s q o)
-    unfolding outcomeOfCall verdict OutcomeFits callTests AllFalse lowestBroken after smallTests
+    unfolding outcomeOfCall verdict OutcomeFits callTests AllNone lowestBroken after
     call-fits none none e = omega arith
     call-fits (some q) none e =
         let l : length (s .rules) ≤ 32 = ruled .counted in
-        verdict-fits q _ (not-false (fieldsFit (ranges (q .kind)) q) (all-false (callTests (s .tables) (some q)) e .0))
+        verdict-fits q _ (not-false (fieldsFit (ranges (q .kind)) q) (untrue _ 5 (all-none (callTests (s .tables) (some q)) e .0)))
         (first-broken (after s (change (s .tables) q)) 0 (s .rules) (omega arith) (ruled .diverted))
-    call-fits none (some n) e = first-small (callTests (s .tables) none) n refl e
-    call-fits (some q) (some n) e = first-small (callTests (s .tables) (some q)) n refl e
+    call-fits none (some n) e = call-byte (s .tables) none n e
+    call-fits (some q) (some n) e = call-byte (s .tables) (some q) n e
 
     rule-fits : (r : Rule) (o : Option ℕ) → firstThat (ruleTests s r) ≡ o → Q r → OutcomeFits s (outcomeOfRule s r o)
-    unfolding outcomeOfRule OutcomeFits ruleTests fieldTests AllFalse smallTests
+    unfolding outcomeOfRule OutcomeFits ruleTests fieldTests AllNone
     rule-fits r none e f =
-        let h = all-false (ruleTests s r) e in
-        let l : length (s .rules) < 32 = leb-false 32 (length (s .rules)) (h .1 .1 .1 .0) in
+        let h = all-none (ruleTests s r) e in
+        let l : length (s .rules) < 32 = leb-false 32 (length (s .rules)) (untrue _ 11 (h .1 .1 .1 .0)) in
         (l, l, fit-substitute r (first-of-none (fieldTests r) (h .0, (h .1 .0, (h .1 .1 .0, tt)))), f)
-    rule-fits r (some n) e f = first-small (ruleTests s r) n refl e
+    rule-fits r (some n) e f = rule-byte s r n e
 
     pub outcome-fits : (y : Reading) → ReadingFits y → OutcomeFits s (outcomeOf s y)
     unfolding outcomeOf OutcomeFits ReadingFits

@@ -11,13 +11,13 @@ use lib.Dec.{ltb}
 use lib.ListN.{getD, length, List·getD-append}
 use lib.Seq.{take-at, drop-at, take-all, drop-drop, getD-at, ext-getD}
 use borrow.Author.Tests.{ltb-true, ltb-false, not-false}
-use Rattle.flow.specs.Lists.{table, firstThat, isNone}
+use Rattle.flow.specs.Lists.{table, _⇒_, firstThat, isNone}
 use Rattle.flow.specs.Box.{Condition, forbid, separate, confine, Rule, State}
 use Rattle.flow.specs.Records.{forbidTag, separateTag, confineTag, conditionOf}
 use Rattle.flow.specs.Refusals.{itemsFit, substituteFits, sameItems, fieldTests}
 use Rattle.flow.specs.Kept.{wellFormed, allWellFormed}
 use Rattle.flow.proofs.Bools.{and-l, and-r, by}
-use Rattle.flow.proofs.TableLaws.{table-at, table-length, none-is, AllFalse, all-false}
+use Rattle.flow.proofs.TableLaws.{table-at, table-length, none-is, AllNone, all-none, untrue}
 use Rattle.flow.proofs.Keeping.{Invariant}
 use Rattle.store.specs.Maps.{part, view as mapsOf}
 use Rattle.rules.specs.Stored.{place, countField, conditionAt, actionAt, substituteAt, ruleAt, countOf, rulesOf}
@@ -70,12 +70,12 @@ module _ (r : Rule) (w : wellFormed r ≡ true) where
   substitute-lt = fit-substitute r untested
 
   pub fields-fit : (itemsFit (r .condition) ≡ true) × (r .action < 2)
-  unfolding fieldTests AllFalse
-  fields-fit = let h = all-false (fieldTests r) untested in (and-l _ (substituteFits r) (not-false _ (h .1 .0)), ltb-true (r .action) 2 (not-false _ (h .0)))
+  unfolding fieldTests AllNone
+  fields-fit = let h = all-none (fieldTests r) untested in (and-l _ (substituteFits r) (not-false _ (untrue _ 5 (h .1 .0))), ltb-true (r .action) 2 (not-false _ (untrue _ 4 (h .0))))
 
 -- each rule of a list can be loaded
 pub formed-at : (rs : List Rule) (k : ℕ) → allWellFormed rs ≡ true → wellFormed (getD rs k blank) ≡ true
-unfolding allWellFormed wellFormed fieldTests firstThat isNone itemsFit substituteFits sameItems
+unfolding allWellFormed wellFormed fieldTests firstThat _⇒_ isNone itemsFit substituteFits sameItems
 formed-at [] k h = refl
 formed-at (r ∷ rs) zero h = and-l _ (allWellFormed rs) h
 formed-at (r ∷ rs) (suc k) h = formed-at rs k (and-r (wellFormed r) _ h)

@@ -1,10 +1,11 @@
 -- A call that is not refused: what it makes of the links and the tables, and that its flow fits.
 use Prim.Native.Nat.{ℕ, _<_}
 use native.Mathlib.Omega.{arith}
-use mathlib.Core.Path.{_≡_, refl, sym, _∙_}
+use mathlib.Core.Path.{_≡_, refl, sym, ap, _∙_}
 use mathlib.Core.Logic.{_⊎_, inl, inr}
 use mathlib.Core.Bool.{Bool, true, false, not, _&&_, _||_}
 use mathlib.Core.List.{List}
+use mathlib.Core.Option.{none}
 use lib.Dec.{ltb}
 use lib.ListN.{set}
 use borrow.Author.Tests.{ltb-true, eqb-true, not-false}
@@ -13,9 +14,9 @@ use Rattle.sets.proofs.Members.{union-has, only-has, none-has}
 use Rattle.flow.specs.Box.{containerOf, isTarget, Tables, feedersOf, feeds, descriptor, isLive, isOpen, isBound}
 use Rattle.flow.specs.Links.{linked, used, isFed}
 use Rattle.flow.specs.Calls.{Kind, start, openName, create, pipe, device, dup, close, read, write, truncate, mapRead, mapBoth, unmap, unlink, rename, link, fork, exit, label, kindNumber, Call, isKind, Flow, still, clear, withLive, withDescriptors, withNames, withLinks, tablesBy, flowBy}
-use Rattle.flow.specs.Refusals.{inRange, Ranges, ranges, fieldsFit, dead, taken, missing}
+use Rattle.flow.specs.Refusals.{inRange, Ranges, ranges, fieldsFit, dead, taken, Need, openDescriptor, needOf, missing}
 use Rattle.flow.proofs.Bools.{or-elim, and-l, and-r, or-false-r, by, no-both}
-use Rattle.flow.proofs.TableLaws.{none-of}
+use Rattle.flow.proofs.TableLaws.{none-of, untrue}
 use Rattle.flow.proofs.Reach.{link-cases, link-in, link-out}
 use Rattle.flow.proofs.Rows.{target-lt, target-not, Row, Rows, row-none, row-add, less-elim, row-less, row-live, row-cases, rows-set, rows-more, more-live, now-live, still-live}
 use Rattle.flow.proofs.Use.{used-process, used-open, feeder-row, fed-row, linked-used}
@@ -27,7 +28,7 @@ pub record Accepted (s : Tables) (q : Call) : Type 0 where
   pub fits : fieldsFit (ranges (q .kind)) q ≡ true
   pub lives : dead s q ≡ false
   pub free : taken s (q .process) (q .a) (q .b) (q .c) (q .kind) ≡ false
-  pub there : missing s (q .process) (q .a) (q .b) (q .c) (q .kind) ≡ false
+  pub there : missing s (q .process) (q .a) (needOf (q .kind)) ≡ none
 
 module _ (r : Ranges) (q : Call) (h : fieldsFit r q ≡ true) where
   pub fits-process : inRange (r .process) (q .process) ≡ true
@@ -93,9 +94,9 @@ module _ (s : Tables) (k : Linking s) (p a b c : ℕ) where
   pub process-lt : (kind : Kind) → inRange (ranges kind .process) p ≡ ltb p 16 → Accepted s (call kind) → p < 16
   process-lt kind e h = ltb-true p 16 (sym e ∙ fits-process (ranges kind) (call kind) (h .fits))
 
-  opened : (kind : Kind) → missing s p a b c kind ≡ not (isOpen s p a) → Accepted s (call kind) → isTarget to ≡ true
-  unfolding isOpen
-  opened kind e h = not-false (isTarget to) (sym e ∙ h .there)
+  opened : (kind : Kind) → needOf kind ≡ openDescriptor → Accepted s (call kind) → isTarget to ≡ true
+  unfolding missing isOpen
+  opened kind e h = not-false (isTarget to) (untrue _ 14 (ap (missing s p a) (sym e) ∙ h .there))
 
   pub alive : (kind : Kind) → dead s (call kind) ≡ not (isLive s p) → Accepted s (call kind) → has (s .live) p ≡ true
   unfolding isLive
@@ -118,7 +119,7 @@ module _ (s : Tables) (k : Linking s) (p a b c : ℕ) where
       }
 
   pub linking-after : (kind : Kind) → Accepted s (call kind) → Linking (tablesBy s p a b c kind)
-  unfolding tablesBy withLive withDescriptors withNames ranges inRange missing dead isKind kindNumber
+  unfolding tablesBy withLive withDescriptors withNames ranges inRange needOf missing dead isKind kindNumber
   linking-after start h = record { feeders = rows-more (s .live) _ (s .feeders) (more-live (s .live) p) (k .feeders); fed = rows-more (s .live) _ (s .fed) (more-live (s .live) p) (k .fed) }
   linking-after openName h = record { feeders = k .feeders; fed = k .fed }
   linking-after create h = record { feeders = k .feeders; fed = k .fed }
@@ -207,7 +208,7 @@ module _ (s : Tables) (k : Linking s) (p a b c : ℕ) where
       (λ e. e)
 
   pub fits-after : (kind : Kind) → Accepted s (call kind) → Fit s (tablesBy s p a b c kind) (flowBy s p a b c kind)
-  unfolding tablesBy flowBy Fit withLive withDescriptors withNames linked feedersOf feeds ranges inRange missing taken dead isKind kindNumber isLive
+  unfolding tablesBy flowBy Fit withLive withDescriptors withNames linked feedersOf feeds ranges inRange needOf missing taken dead isKind kindNumber isLive
   fits-after start h = (λ x y l. l, no-link-into (containerOf p) (used-process s p (process-lt start refl h) ∙ h .free))
   fits-after openName h = λ x y l. l
   fits-after create h = (λ x y l. l, no-link-into c (or-false-r (isBound s a || isOpen s p b) (used s c) (h .free)))
@@ -235,4 +236,4 @@ module _ (s : Tables) (k : Linking s) (p a b c : ℕ) where
       (omega arith, omega arith, used-process s a ha ∙ h .free, used-process (tablesBy s p a b c fork) a ha ∙ now-live (s .live) a, fit-fork hp ha)
   fits-after exit h = let hp = process-lt exit refl h in (fit-exit hp, unlinked-exit hp)
   fits-after label h =
-      (ltb-true a 64 (fits-a (ranges label) (call label) (h .fits)), ltb-true b 64 (fits-b (ranges label) (call label) (h .fits)), not-false (used s a) (h .there), λ x y l. l)
+      (ltb-true a 64 (fits-a (ranges label) (call label) (h .fits)), ltb-true b 64 (fits-b (ranges label) (call label) (h .fits)), not-false (used s a) (untrue _ 8 (h .there)), λ x y l. l)

@@ -9,8 +9,9 @@ use lib.ListN.{getD, take, drop, replicate, set}
 use borrow.Author.Tests.{not-false}
 use Rattle.flow.specs.Box.{isDevice, isFile, isTarget, closed, slot, descriptorCount, Tables, descriptor, name, isOpen, isBound}
 use Rattle.flow.specs.Calls.{Kind, start, openName, create, pipe, device, dup, close, read, write, truncate, mapRead, mapBoth, unmap, unlink, rename, link, fork, exit, label, Call, withLive, withDescriptors, withNames, withLinks, putBlock, block, tablesBy}
-use Rattle.flow.specs.Refusals.{inRange, ranges, missing}
+use Rattle.flow.specs.Refusals.{inRange, ranges, needOf, missing}
 use Rattle.flow.proofs.Bools.{or-l, or-r}
+use Rattle.flow.proofs.TableLaws.{untrue}
 use Rattle.flow.proofs.Accepted.{Accepted, fits-b, fits-c}
 
 -- every element of the list is closed, or P holds of it
@@ -84,9 +85,9 @@ module _ (s : Tables) (t : Entries s) (p a b c : ℕ) where
   name-entry = each-at isFile (s .names) a (t .named)
 
   pub entries-after : (kind : Kind) → Accepted s (call kind) → Entries (tablesBy s p a b c kind)
-  unfolding tablesBy withLive withDescriptors withNames withLinks ranges inRange missing isOpen isBound
+  unfolding tablesBy withLive withDescriptors withNames withLinks ranges inRange needOf missing isOpen isBound
   entries-after start h = record { described = t .described; named = t .named }
-  entries-after openName h = record { described = each-set isTarget _ _ _ (inr (not-false (isTarget (name s a)) (h .there))) (t .described); named = t .named }
+  entries-after openName h = record { described = each-set isTarget _ _ _ (inr (not-false (isTarget (name s a)) (untrue _ 15 (h .there)))) (t .described); named = t .named }
   entries-after create h =
       let f = fits-c (ranges create) (call create) (h .fits) in
       record { described = each-set isTarget _ _ c (inr (file-leads c f)) (t .described); named = each-set isFile _ _ c (inr f) (t .named) }
@@ -95,7 +96,7 @@ module _ (s : Tables) (t : Entries s) (p a b c : ℕ) where
       record { described = each-set isTarget _ _ c f (each-set isTarget _ _ c f (t .described)); named = t .named }
   entries-after device h =
       record { described = each-set isTarget _ _ b (inr (device-leads b (fits-b (ranges device) (call device) (h .fits)))) (t .described); named = t .named }
-  entries-after dup h = record { described = each-set isTarget _ _ _ (inr (not-false (isTarget (descriptor s p a)) (h .there))) (t .described); named = t .named }
+  entries-after dup h = record { described = each-set isTarget _ _ _ (inr (not-false (isTarget (descriptor s p a)) (untrue _ 14 (h .there)))) (t .described); named = t .named }
   entries-after close h = record { described = each-set isTarget _ _ closed (inl refl) (t .described); named = t .named }
   entries-after read h = t
   entries-after write h = t

@@ -12,12 +12,12 @@ use lib.Seq.{length-take-le, length-front, take-append-seam, drop-append-seam}
 use borrow.Author.Tests.{lt-ltb, le-ltb, ltb-true, ltb-false, lt-leb, le-leb}
 use Rattle.sets.specs.Sets.{risingFrom, rising}
 use Rattle.sets.proofs.Rising.{rising-taken, rising-passed}
-use Rattle.flow.specs.Lists.{isIn, firstThat}
+use Rattle.flow.specs.Lists.{isIn, _⇒_, firstThat}
 use Rattle.flow.specs.Box.{State, holds}
 use Rattle.flow.specs.Queries.{holders, holdersRefusal, replyBy, holdersQuery, sliceBy, holdersSlice}
 use Rattle.flow.specs.Consequences.{Rises, HoldersInOrder, HoldersAnswered, Leaves, SliceAnswered}
 use Rattle.flow.proofs.Bools.{and-l, and-r, and-i, by, same}
-use Rattle.flow.proofs.TableLaws.{in-front, in-rest, in-cases, AllFalse, all-false}
+use Rattle.flow.proofs.TableLaws.{in-front, in-rest, in-cases, AllNone, all-none, untrue}
 
 -- ---- two rising lists of the same numbers are the same
 abbrev Alike : List ℕ → List ℕ → Type 0
@@ -105,15 +105,15 @@ holders-in-order s i l = (
 -- ---- the answer
 module _ (s : State) (i n : ℕ) where
   pub refusal-range : 64 ≤ i → holdersRefusal s i n ≡ some 5
-  unfolding holdersRefusal firstThat
+  unfolding holdersRefusal firstThat _⇒_
   refusal-range h = rw (le-leb 64 i h)
 
   pub refusal-short : i < 64 → n < length (holders s i) → holdersRefusal s i n ≡ some 13
-  unfolding holdersRefusal firstThat
+  unfolding holdersRefusal firstThat _⇒_
   refusal-short h k = rw (lt-leb 64 i h, lt-ltb n (length (holders s i)) k)
 
   pub refusal-none : i < 64 → length (holders s i) ≤ n → holdersRefusal s i n ≡ none
-  unfolding holdersRefusal firstThat
+  unfolding holdersRefusal firstThat _⇒_
   refusal-none h k = rw (lt-leb 64 i h, le-ltb n (length (holders s i)) k)
 
 pub holders-answered : HoldersAnswered
@@ -122,8 +122,8 @@ holders-answered s i n = ((λ h. rw (refusal-range s i n h)), (λ h k. rw (refus
 
 -- ---- the slice
 room : (s : State) (i n : ℕ) → holdersRefusal s i n ≡ none → length (holders s i) ≤ n
-unfolding holdersRefusal AllFalse
-room s i n e = ltb-false n (length (holders s i)) (all-false _ e .1 .0)
+unfolding holdersRefusal AllNone
+room s i n e = ltb-false n (length (holders s i)) (untrue _ 13 (all-none _ e .1 .0))
 
 pub slice-answered : SliceAnswered
 unfolding SliceAnswered Leaves holdersQuery holdersSlice replyBy sliceBy

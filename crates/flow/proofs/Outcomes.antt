@@ -21,7 +21,7 @@ use Rattle.flow.specs.Contents.{labelOf}
 use Rattle.flow.specs.Kept.{wellFormed, allWellFormed}
 use Rattle.flow.specs.Consequences.{LowestIn, this, past}
 use Rattle.flow.proofs.Bools.{and-l, and-r, choice}
-use Rattle.flow.proofs.TableLaws.{none-is, AllFalse, all-false, first-of-none}
+use Rattle.flow.proofs.TableLaws.{none-is, AllNone, all-none, first-of-none, untrue}
 use Rattle.flow.proofs.KindLaws.{kind-is}
 use Rattle.flow.proofs.Judging.{lowest-in}
 use Rattle.flow.proofs.Rows.{target-lt}
@@ -89,10 +89,10 @@ broken-fits u n (r ∷ rs) x w (this b e) = rw e (and-l _ (allWellFormed rs) w)
 broken-fits u n (r ∷ rs) x w (past b l) = broken-fits u (suc n) rs x (and-r (wellFormed r) _ w) l
 
 substitute-target : (r : Rule) → wellFormed r ≡ true → eqb (r .action) 1 ≡ true → isTarget (r .substitute) ≡ true
-unfolding wellFormed fieldTests AllFalse substituteFits
+unfolding wellFormed fieldTests AllNone substituteFits
 substitute-target r w e =
-    let h = all-false (fieldTests r) (none-is (firstThat (fieldTests r)) w) in
-    let f : substituteFits r ≡ true = and-r (itemsFit (r .condition)) _ (not-false (itemsFit (r .condition) && substituteFits r) (h .1 .0)) in
+    let h = all-none (fieldTests r) (none-is (firstThat (fieldTests r)) w) in
+    let f : substituteFits r ≡ true = and-r (itemsFit (r .condition)) _ (not-false (itemsFit (r .condition) && substituteFits r) (untrue _ 5 (h .1 .0))) in
     let q : r .action ≡ 1 = eqb-true (r .action) 1 e in
     rw q at f
 
@@ -143,28 +143,28 @@ module _ (s : State) (k : Linking (s .tables)) (t : Entries (s .tables)) (u : Qu
       stopped-sound q (x .number) (x .rule) h (broken-fits (after s (change (s .tables) q)) 0 (s .rules) x w (lowest-in (after s (change (s .tables) q)) 0 _ x e))
 
   -- ---- a record
-  accepted-call : (q : Call) → AllFalse (callTests (s .tables) (some q)) → Accepted (s .tables) q
-  unfolding callTests AllFalse
-  accepted-call q h = record { fits = not-false (fieldsFit (ranges (q .kind)) q) (h .0); lives = h .1 .0; free = h .1 .1 .0; there = h .1 .1 .1 .0 }
+  accepted-call : (q : Call) → AllNone (callTests (s .tables) (some q)) → Accepted (s .tables) q
+  unfolding callTests AllNone
+  accepted-call q h = record { fits = not-false (fieldsFit (ranges (q .kind)) q) (untrue _ 5 (h .0)); lives = untrue _ 6 (h .1 .0); free = untrue _ 7 (h .1 .1 .0); there = h .1 .1 .1 .0 }
 
-  accepted-rule : (r : Rule) → AllFalse (ruleTests s r) → (broken s r ≡ false) × (wellFormed r ≡ true) × (length (s .rules) < 32)
-  unfolding ruleTests fieldTests AllFalse wellFormed isNone
+  accepted-rule : (r : Rule) → AllNone (ruleTests s r) → (broken s r ≡ false) × (wellFormed r ≡ true) × (length (s .rules) < 32)
+  unfolding ruleTests fieldTests AllNone wellFormed isNone
   accepted-rule r h = (
-    h .1 .1 .1 .1 .0,
+    untrue _ 12 (h .1 .1 .1 .1 .0),
     ap isNone (first-of-none (fieldTests r) (h .0, (h .1 .0, (h .1 .1 .0, tt)))),
-    leb-false 32 (length (s .rules)) (h .1 .1 .1 .0),
+    leb-false 32 (length (s .rules)) (untrue _ 11 (h .1 .1 .1 .0)),
   )
 
   call-sound : (q : Option Call) (o : Option ℕ) → firstThat (callTests (s .tables) q) ≡ o → allWellFormed (s .rules) ≡ true → Sound s q (outcomeOfCall s q o)
   unfolding outcomeOfCall verdict Sound
   call-sound none none e w = tt
-  call-sound (some q) none e w = verdict-sound q _ (accepted-call q (all-false _ e)) refl w
+  call-sound (some q) none e w = verdict-sound q _ (accepted-call q (all-none _ e)) refl w
   call-sound none (some n) e w = tt
   call-sound (some q) (some n) e w = tt
 
   rule-sound : (r : Rule) (o : Option ℕ) → firstThat (ruleTests s r) ≡ o → Sound s none (outcomeOfRule s r o)
   unfolding outcomeOfRule Sound
-  rule-sound r none e = accepted-rule r (all-false _ e)
+  rule-sound r none e = accepted-rule r (all-none _ e)
   rule-sound r (some n) e = tt
 
   reading-sound : (x : Reading) → allWellFormed (s .rules) ≡ true → Sound s (callRead x) (outcomeOf s x)

@@ -117,14 +117,14 @@ set-cases {A} l i a k d P h g = go (ℕ-discrete k i) (decLt i (length l))
 pub first-some : (ts us : List Test) (n : ℕ) → firstThat ts ≡ some n → firstThat (ts ++ us) ≡ some n
 unfolding firstThat
 first-some [] us n e = absurd (let z : _≡_ {A = ℕ} 0 1 = cc in let y : ⊥ = omega arith in y)
-first-some ((true ⇒ k) ∷ ts) us n e = e
-first-some ((false ⇒ k) ∷ ts) us n e = first-some ts us n e
+first-some (some k ∷ ts) us n e = e
+first-some (none ∷ ts) us n e = first-some ts us n e
 
 pub first-none : (ts us : List Test) → firstThat ts ≡ none → firstThat (ts ++ us) ≡ firstThat us
 unfolding firstThat
 first-none [] us e = refl
-first-none ((true ⇒ k) ∷ ts) us e = absurd (let z : _≡_ {A = ℕ} 0 1 = cc in let y : ⊥ = omega arith in y)
-first-none ((false ⇒ k) ∷ ts) us e = first-none ts us e
+first-none (some k ∷ ts) us e = absurd (let z : _≡_ {A = ℕ} 0 1 = cc in let y : ⊥ = omega arith in y)
+first-none (none ∷ ts) us e = first-none ts us e
 
 pub none-is : {A : Type 0} (o : Option A) → isNone o ≡ true → o ≡ none
 unfolding isNone
@@ -132,17 +132,28 @@ none-is none h = refl
 none-is (some x) h = no-both h refl
 
 -- ---- of the tests of a list none holds
-unfoldable pub AllFalse : List Test → Type 0
-AllFalse [] = Unit {0}
-AllFalse ((b ⇒ n) ∷ ts) = (b ≡ false) × AllFalse ts
+unfoldable pub AllNone : List Test → Type 0
+AllNone [] = Unit {0}
+AllNone (t ∷ ts) = (t ≡ none) × AllNone ts
 
-pub all-false : (ts : List Test) → firstThat ts ≡ none → AllFalse ts
-unfolding firstThat AllFalse
-all-false [] h = tt
-all-false ((true ⇒ n) ∷ ts) h = absurd (let z : _≡_ {A = ℕ} 0 1 = cc in let y : ⊥ = omega arith in y)
-all-false ((false ⇒ n) ∷ ts) h = (refl, all-false ts h)
+pub all-none : (ts : List Test) → firstThat ts ≡ none → AllNone ts
+unfolding firstThat AllNone
+all-none [] h = tt
+all-none (some n ∷ ts) h = absurd (let z : _≡_ {A = ℕ} 0 1 = cc in let y : ⊥ = omega arith in y)
+all-none (none ∷ ts) h = (refl, all-none ts h)
 
-pub first-of-none : (ts : List Test) → AllFalse ts → firstThat ts ≡ none
-unfolding firstThat AllFalse
+pub first-of-none : (ts : List Test) → AllNone ts → firstThat ts ≡ none
+unfolding firstThat AllNone
 first-of-none [] h = refl
-first-of-none ((b ⇒ n) ∷ ts) h = rw (h .0) (first-of-none ts (h .1))
+first-of-none (t ∷ ts) h = rw (h .0) (first-of-none ts (h .1))
+
+-- the condition of a test that doesn't hold, condition and number of one that does
+pub untrue : (b : Bool) (n : ℕ) → (b ⇒ n) ≡ none → b ≡ false
+unfolding _⇒_
+untrue true n e = absurd (let z : _≡_ {A = ℕ} 0 1 = cc in let y : ⊥ = omega arith in y)
+untrue false n e = refl
+
+pub holding : (b : Bool) (n m : ℕ) → (b ⇒ n) ≡ some m → (b ≡ true) × (m ≡ n)
+unfolding _⇒_
+holding true n m e = (refl, cc)
+holding false n m e = absurd (let z : _≡_ {A = ℕ} 0 1 = cc in let y : ⊥ = omega arith in y)

@@ -3,18 +3,19 @@
 use Prim.Native.Nat.{ℕ, suc, _≤_, _<_}
 use mathlib.Core.Path.{_≡_}
 use mathlib.Core.Logic.{_↔_}
-use mathlib.Core.Bool.{Bool, true, false, _&&_}
+use mathlib.Core.Bool.{true, false, _&&_, _||_}
 use mathlib.Core.List.{List, [], _∷_, _++_, map}
 use mathlib.Core.Option.{none, some}
 use lib.Dec.{ltb}
 use lib.ListN.{getD, length, take, drop}
-use Rattle.flow.specs.Lists.{isIn, Test, _⇒_}
-use Rattle.flow.specs.Box.{containerCount, itemCount, processCount, descriptorCount, containerOf, Rule, State, itemsOf, holds, descriptor}
+use Rattle.sets.specs.Sets.{has}
+use Rattle.flow.specs.Lists.{isIn, Test}
+use Rattle.flow.specs.Box.{containerCount, itemCount, processCount, descriptorCount, containerOf, Rule, State, itemsOf, feedersOf, feeds, holds, descriptor, isOpen, isBound}
 use Rattle.flow.specs.Links.{linked, used}
 use Rattle.flow.specs.Calls.{Kind, fork, kindNumber, Call, Change, change, after}
 use Rattle.flow.specs.Rules.{broken, Numbered, lowestBroken}
 use Rattle.flow.specs.Records.{recordLength, kindOf, callOf, recordsOf}
-use Rattle.flow.specs.Refusals.{recordTests, refusal}
+use Rattle.flow.specs.Refusals.{openDescriptor, boundName, aLink, usedContainer, needOf, recordTests, refusal}
 use Rattle.flow.specs.Verdicts.{allows, inhibits, modifies, diversion, mayDivert, breaksNone, outcome, refused, allow, inhibit, answer, next, answerAll, runLog}
 use Rattle.flow.specs.Queries.{Reply, refuse, result, holders, holdersQuery, holdersSlice}
 use Rattle.flow.specs.Contents.{Step, entry, stateAt}
@@ -23,14 +24,63 @@ use Rattle.flow.specs.Contents.{Step, entry, stateAt}
 unfoldable pub RefusedExactly : Type 0
 RefusedExactly = (s : State) (bytes : List ℕ) (n : ℕ) → answer s bytes ≡ refused n ↔ refusal s bytes ≡ some n
 
+-- 02, Paper 2: its number is that of the first test of its list that holds: that test holds, and no earlier one does
+unfoldable pub FirstDecides : Type 0
+FirstDecides =
+    (s : State) (bytes : List ℕ) (n : ℕ)
+    → (let test : ℕ → Test = λ k. getD (recordTests s bytes) k none in
+    refusal s bytes ≡ some n ↔ (k : ℕ) × (test k ≡ some n) × ((j : ℕ) → j < k → test j ≡ none))
+
 -- a test of the list holds, and its number is m
 pub data Applies (m : ℕ) : List Test → Type 0 where
-  this-test : {b : Bool} {ts : List Test} → b ≡ true → Applies m ((b ⇒ m) ∷ ts)
+  this-test : {t : Test} {ts : List Test} → t ≡ some m → Applies m (t ∷ ts)
   later-test : {t : Test} {ts : List Test} → Applies m ts → Applies m (t ∷ ts)
 
--- the number of a refusal is the lowest that applies
-unfoldable pub LowestRefusal : Type 0
-LowestRefusal = (s : State) (bytes : List ℕ) (n m : ℕ) → refusal s bytes ≡ some n → Applies m (recordTests s bytes) → n ≤ m
+-- 02, Paper 2: the places of the tests of a record, each with its numbers
+unfoldable pub places : List (List ℕ)
+places =
+    (1 ∷ [])
+    ∷ (2 ∷ [])
+    ∷ (3 ∷ [])
+    ∷ (4 ∷ [])
+    ∷ (5 ∷ [])
+    ∷ (6 ∷ [])
+    ∷ (7 ∷ [])
+    ∷ (8 ∷ 14 ∷ 15 ∷ 16 ∷ [])
+    ∷ (9 ∷ [])
+    ∷ (10 ∷ [])
+    ∷ (11 ∷ [])
+    ∷ (12 ∷ [])
+    ∷ []
+
+-- how many places come before that of n
+unfoldable pub placeIn : List (List ℕ) → ℕ → ℕ
+placeIn [] n = 0
+placeIn (l ∷ ls) n = elim (isIn n l) [ true ↦ 0 | false ↦ suc (placeIn ls n) ]
+
+unfoldable pub placeOf : ℕ → ℕ
+placeOf n = placeIn places n
+
+-- the number of a refusal has the earliest place of all that apply
+unfoldable pub EarliestPlace : Type 0
+EarliestPlace = (s : State) (bytes : List ℕ) (n m : ℕ) → refusal s bytes ≡ some n → Applies m (recordTests s bytes) → placeOf n ≤ placeOf m
+
+-- no record meets two numbers of one place: of 8, 14, 15 and 16 one at most
+unfoldable pub OneOfAPlace : Type 0
+OneOfAPlace =
+    (s : State) (bytes : List ℕ) (n m : ℕ)
+    → Applies n (recordTests s bytes) → Applies m (recordTests s bytes) → placeOf n ≡ placeOf m → n ≡ m
+
+-- 02, Paper 2: the number tells what a call lacked
+unfoldable pub NumberTells : Type 0
+NumberTells =
+    (s : State) (bytes : List ℕ) (q : Call) → callOf bytes ≡ some q
+    → (let t = s .tables in
+    let need = needOf (q .kind) in
+    (answer s bytes ≡ refused 14 → (need ≡ openDescriptor) × (isOpen t (q .process) (q .a) ≡ false))
+    × (answer s bytes ≡ refused 15 → (need ≡ boundName) × (isBound t (q .a) ≡ false))
+    × (answer s bytes ≡ refused 16 → (need ≡ aLink) × ((has (feedersOf t (q .process)) (q .a) || has (feeds t (q .process)) (q .a)) ≡ false))
+    × (answer s bytes ≡ refused 8 → (need ≡ usedContainer) × (used t (q .a) ≡ false)))
 
 -- each kind has its number, and no other number is known
 unfoldable pub KindsNumbered : Type 0

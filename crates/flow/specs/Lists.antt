@@ -25,14 +25,19 @@ unfoldable pub isIn : ℕ → List ℕ → Bool
 isIn x [] = false
 isIn x (y ∷ ys) = elim (eqb x y) [ true ↦ true | false ↦ isIn x ys ]
 
--- a test, and the number of the refusal where it holds
-pub data Test : Type 0 where
-  _⇒_ : Bool → ℕ → Test
+-- a test: the number of the refusal where it holds, none where it doesn't
+abbrev pub Test : Type 0
+Test = Option ℕ
+
+-- that of a condition and its number
+unfoldable pub _⇒_ : Bool → ℕ → Test
+b ⇒ n = elim b [ true ↦ some n | false ↦ none ]
 
 -- the number of the first test of the list that holds
 unfoldable pub firstThat : List Test → Option ℕ
 firstThat [] = none
-firstThat ((b ⇒ n) ∷ ts) = elim b [ true ↦ some n | false ↦ firstThat ts ]
+firstThat (none ∷ ts) = firstThat ts
+firstThat (some n ∷ ts) = some n
 
 -- a number as a refusal: 0 stands for none
 unfoldable pub refusalFrom : ℕ → Option ℕ

@@ -1,4 +1,5 @@
--- Document 01, What a record gets: the table of refusals. For each kind of record one list of tests, of which the first that holds decides.
+-- Document 01, What a record gets: the table of refusals. For each kind of record one list of tests, of which the first that holds decides
+-- (02, Paper 2: the earliest place, not the lowest number).
 use Prim.Native.Nat.{ℕ}
 use mathlib.Core.Bool.{Bool, true, false, not, _&&_, _||_}
 use mathlib.Core.List.{List, [], _∷_, _++_}
@@ -96,27 +97,42 @@ module _ (t : Tables) (p a b c : ℕ) where
   taken exit = false
   taken label = false
 
-  -- 8: descriptor a closed, name a unbound, no link to unmap, container to label not in use
-  unfoldable pub missing : Kind → Bool
-  missing start = false
-  missing openName = not (isBound t a)
-  missing create = false
-  missing pipe = false
-  missing device = false
-  missing dup = not (isOpen t p a)
-  missing close = not (isOpen t p a)
-  missing read = not (isOpen t p a)
-  missing write = not (isOpen t p a)
-  missing truncate = not (isOpen t p a)
-  missing mapRead = not (isOpen t p a)
-  missing mapBoth = not (isOpen t p a)
-  missing unmap = not (has (feedersOf t p) a || has (feeds t p) a)
-  missing unlink = not (isBound t a)
-  missing rename = not (isBound t a)
-  missing link = not (isBound t a)
-  missing fork = false
-  missing exit = false
-  missing label = not (used t a)
+-- what a call must find
+pub data Need : Type 0 where
+  noNeed : Need
+  openDescriptor : Need  -- a
+  boundName : Need  -- a
+  aLink : Need  -- between the process and container a, either way
+  usedContainer : Need  -- a
+
+unfoldable pub needOf : Kind → Need
+needOf start = noNeed
+needOf openName = boundName
+needOf create = noNeed
+needOf pipe = noNeed
+needOf device = noNeed
+needOf dup = openDescriptor
+needOf close = openDescriptor
+needOf read = openDescriptor
+needOf write = openDescriptor
+needOf truncate = openDescriptor
+needOf mapRead = openDescriptor
+needOf mapBoth = openDescriptor
+needOf unmap = aLink
+needOf unlink = boundName
+needOf rename = boundName
+needOf link = boundName
+needOf fork = noNeed
+needOf exit = noNeed
+needOf label = usedContainer
+
+-- 02, Paper 2, all in the place of 8: 14 descriptor closed, 15 name unbound, 16 no link to unmap; 8 container to label not in use
+unfoldable pub missing : Tables → ℕ → ℕ → Need → Test
+missing t p a noNeed = none
+missing t p a openDescriptor = not (isOpen t p a) ⇒ 14
+missing t p a boundName = not (isBound t a) ⇒ 15
+missing t p a aLink = not (has (feedersOf t p) a || has (feeds t p) a) ⇒ 16
+missing t p a usedContainer = not (used t a) ⇒ 8
 
 -- 9: pipe's two descriptors equal
 unfoldable pub sameDescriptors : Call → Bool
@@ -128,12 +144,12 @@ noFile t q = isKind truncate q && isDevice (descriptor t (q .process) (q .a))
 
 -- ---- the tests of a call; 4 where its kind is unknown
 unfoldable pub callTests : Tables → Option Call → List Test
-callTests t none = (true ⇒ 4) ∷ []
+callTests t none = some 4 ∷ []
 callTests t (some q) =
     (not (fieldsFit (ranges (q .kind)) q) ⇒ 5)
     ∷ (dead t q ⇒ 6)
     ∷ (taken t (q .process) (q .a) (q .b) (q .c) (q .kind) ⇒ 7)
-    ∷ (missing t (q .process) (q .a) (q .b) (q .c) (q .kind) ⇒ 8)
+    ∷ missing t (q .process) (q .a) (needOf (q .kind))
     ∷ (sameDescriptors q ⇒ 9)
     ∷ (noFile t q ⇒ 10)
     ∷ []
@@ -164,7 +180,7 @@ ruleTests s r = fieldTests r ++ ((leb ruleCount (length (s .rules)) ⇒ 11) ∷ 
 
 -- ---- the tests of any record
 unfoldable pub testsOf : State → Reading → List Test
-testsOf s (unreadable n) = (true ⇒ n) ∷ []
+testsOf s (unreadable n) = some n ∷ []
 testsOf s (aCall q) = callTests (s .tables) q
 testsOf s (aRule r) = ruleTests s r
 

@@ -1,4 +1,5 @@
--- Document 01, Runs to check: the starred runs as one list, and two examples that contents do move. 02, Paper 1: the holders after some logs.
+-- Document 01, Runs to check: the starred runs as one list, and two examples that contents do move. 02, Paper 1: the holders after some logs;
+-- Paper 2: which thing was missing.
 use Prim.Native.Nat.{ℕ, _+_}
 use mathlib.Core.Path.{_≡_}
 use mathlib.Core.Bool.{true, false}
@@ -118,10 +119,10 @@ Starred = (map outcomeOf starred ≡ starred) × (runLog fresh renamed .state �
 -- ---- further checks: run B's answers, and the rows of the table of refusals that no starred run meets
 unfoldable pub further : List Check
 further =
-    -- B
+    -- B (02, Paper 2: its last line but one is 14)
     check
     (call start 0 0 0 0 ++ call create 0 5 0 24 ++ call label 0 24 1 0 ++ setRule 0x11 1 0 0 0 2 1 3 ++ call device 0 1 1 0 ++ call read 0 0 0 0 ++ call write 0 1 0 0 ++ call write 0 2 0 0 ++ 0x10 ∷ 0 ∷ [])
-    (allowed 3 ++ rule 0 ∷ allow ∷ allow ∷ modify 0 3 ∷ refused 8 ∷ refused 1 ∷ [])
+    (allowed 3 ++ rule 0 ∷ allow ∷ allow ∷ modify 0 3 ∷ refused 14 ∷ refused 1 ∷ [])
     (holding 3 2 ∷ holding 1 0 ∷ [])
     -- the lowest broken rule is number 1, and it inhibits although number 2 would divert
     ∷ check
@@ -138,15 +139,15 @@ further =
     (call label 1 0 0 0 ++ call start 0 0 0 1 ++ setRule 0x11 0 0 0 0 0 0 1 ++ setRule 0x11 0 0 0 0 0 1 8 ++ 0x12 ∷ 0 ∷ 4 ∷ 64 ∷ 64 ∷ 0 ∷ 0 ∷ [])
     (refused 5 ∷ refused 5 ∷ refused 5 ∷ refused 5 ∷ refused 5 ∷ [])
     []
-    -- 6, 7 before 8, 8, 9 of a rule, 10
+    -- 6, 7 before 15, 15, 16, 8, 9 of a rule, 10
     ∷ check
     (call read 0 0 0 0 ++ call start 0 0 0 0 ++ call device 0 0 1 0 ++ call openName 0 9 0 0 ++ call openName 0 9 1 0 ++ call unmap 0 24 0 0 ++ call label 0 24 0 0 ++ 0x12 ∷ 0 ∷ 4 ∷ 3 ∷ 3 ∷ 0 ∷ 0 ∷ [] ++ call truncate 0 0 0 0)
-    (refused 6 ∷ allow ∷ allow ∷ refused 7 ∷ refused 8 ∷ refused 8 ∷ refused 8 ∷ refused 9 ∷ refused 10 ∷ [])
+    (refused 6 ∷ allow ∷ allow ∷ refused 7 ∷ refused 15 ∷ refused 16 ∷ refused 8 ∷ refused 9 ∷ refused 10 ∷ [])
     []
     -- a dead process leaves no descriptors and no links: started again it has none
     ∷ check
     (call start 0 0 0 0 ++ call create 0 0 0 24 ++ call mapBoth 0 0 0 0 ++ call exit 0 0 0 0 ++ call start 0 0 0 0 ++ call read 0 0 0 0 ++ call unmap 0 24 0 0 ++ call label 0 24 1 0)
-    (allowed 5 ++ refused 8 ∷ refused 8 ∷ allow ∷ [])
+    (allowed 5 ++ refused 14 ∷ refused 16 ∷ allow ∷ [])
     (holding 24 2 ∷ holding 8 0 ∷ [])
     -- a child has the parent's descriptors, and its links in each direction
     ∷ check
@@ -156,7 +157,7 @@ further =
     -- rename unbinds a, and empties what b led to; dup and link lead where a does
     ∷ check
     (call start 0 0 0 0 ++ call create 0 0 0 24 ++ call create 0 1 1 25 ++ call label 0 25 1 0 ++ call close 0 1 0 0 ++ call rename 0 0 1 0 ++ call openName 0 0 2 0 ++ call dup 0 0 3 0 ++ call label 0 24 2 0 ++ call read 0 3 0 0 ++ call link 0 1 4 0 ++ call openName 0 4 5 0)
-    (allowed 6 ++ refused 8 ∷ allowed 5)
+    (allowed 6 ++ refused 15 ∷ allowed 5)
     (holding 25 0 ∷ holding 8 4 ∷ [])
     ∷ []
 
@@ -211,6 +212,30 @@ asked =
 
 unfoldable pub HoldersAsked : Type 0
 HoldersAsked = map replied asked ≡ asked
+
+-- ---- 02, Paper 2: which thing was missing
+unfoldable pub lacking : List Check
+lacking =
+    -- the number tells which: descriptor 3 is closed, name 3 unbound, 24 not mapped, 24 not in use
+    check
+    (call start 0 0 0 0 ++ call read 0 3 0 0 ++ call openName 0 3 3 0 ++ call unmap 0 24 0 0 ++ call label 0 24 3 0)
+    (allow ∷ refused 14 ∷ refused 15 ∷ refused 16 ∷ refused 8 ∷ [])
+    []
+    -- the earliest place decides. Dup of a closed descriptor onto an open one is 7, onto a closed one 14, even onto itself; a pipe's two may not
+    -- be equal, and that is 9; truncate of a closed descriptor is 14, of a device 10; link of an unbound name onto a bound one is 7
+    ∷ check
+    (call start 0 0 0 0 ++ call device 0 1 2 0 ++ call dup 0 3 1 0 ++ call dup 0 3 4 0 ++ call dup 0 3 3 0 ++ call pipe 0 3 3 24 ++ call pipe 0 1 1 24 ++ call truncate 0 3 0 0 ++ call truncate 0 1 0 0 ++ call create 0 5 0 24 ++ call link 0 3 5 0 ++ call link 0 3 3 0)
+    (allow ∷ allow ∷ refused 7 ∷ refused 14 ∷ refused 14 ∷ refused 9 ∷ refused 7 ∷ refused 14 ∷ refused 10 ∷ allow ∷ refused 7 ∷ refused 15 ∷ [])
+    []
+    -- a file whose name, descriptor and links end one by one
+    ∷ check
+    (call start 0 0 0 0 ++ call create 0 5 0 24 ++ call mapBoth 0 0 0 0 ++ call unlink 0 5 0 0 ++ call openName 0 5 1 0 ++ call close 0 0 0 0 ++ call read 0 0 0 0 ++ call label 0 24 1 0 ++ call unmap 0 24 0 0 ++ call unmap 0 24 0 0 ++ call label 0 24 1 0)
+    (allowed 4 ++ refused 15 ∷ allow ∷ refused 14 ∷ allow ∷ allow ∷ refused 16 ∷ refused 8 ∷ [])
+    (holding 8 2 ∷ holding 24 0 ∷ [])
+    ∷ []
+
+unfoldable pub Lacking : Type 0
+Lacking = map outcomeOf lacking ≡ lacking
 
 -- ---- contents do move
 -- the sum of the contents of what links to a container

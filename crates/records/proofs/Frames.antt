@@ -13,7 +13,7 @@ use Rattle.flow.specs.Lists.{tableFrom, _⇒_, firstThat, refusalFrom}
 use Rattle.flow.specs.Box.{forbid, separate, confine}
 use Rattle.flow.specs.Records.{byteAt, tagOf, callTag, forbidTag, separateTag, statedLength, recordLength, valueOf, cutShort, knownTag, tagLength, wrongLength, callFrom, callIn, conditionOf, numberFrom, setIn, ruleWith, ruleIn, unreadable, aCall, aRule, frameTests, contentOf, readingBy, reading}
 use Rattle.flow.proofs.Bools.{chosen-r}
-use Rattle.flow.proofs.TableLaws.{AllFalse, all-false}
+use Rattle.flow.proofs.TableLaws.{AllNone, all-none, untrue}
 
 -- the three tests, each by its value
 pub framed : (bytes : List ℕ) (x y z : Bool) → cutShort bytes ≡ x → knownTag (tagOf bytes) ≡ y → wrongLength bytes ≡ z
@@ -47,8 +47,8 @@ unread bytes (suc n) h e = rw (← e)
 module _ (bytes : List ℕ) (whole : firstThat (frameTests bytes) ≡ none) where
   -- it isn't cut short, and its length is its tag's
   frame : (cutShort bytes ≡ false) × (wrongLength bytes ≡ false)
-  unfolding frameTests AllFalse
-  frame = let h = all-false (frameTests bytes) whole in (h .0, h .1 .1 .0)
+  unfolding frameTests AllNone
+  frame = let h = all-none (frameTests bytes) whole in (untrue _ 1 (h .0), untrue _ 3 (h .1 .1 .0))
 
   -- its value is the bytes after the header
   value : (n : ℕ) → n ≡ tagLength (tagOf bytes) → valueOf bytes ≡ tableFrom n 3 (byteAt bytes)

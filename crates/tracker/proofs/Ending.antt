@@ -15,9 +15,9 @@ use Rattle.flow.specs.Lists.{isIn}
 use Rattle.flow.specs.Box.{isDevice, isFile, containerOf, isTarget, closed, slot, descriptorCount, Tables, feedersOf, feeds, descriptor, name, isLive, isOpen, isBound}
 use Rattle.flow.specs.Links.{mapped, used}
 use Rattle.flow.specs.Calls.{Kind, start, openName, create, pipe, device, dup, close, read, write, truncate, mapRead, mapBoth, unmap, unlink, rename, link, fork, exit, label, Call, isKind, kindNumber, withLive, withDescriptors, withNames, withLinks, putBlock, block, tablesBy}
-use Rattle.flow.specs.Refusals.{ranges, inRange, dead, taken, missing}
+use Rattle.flow.specs.Refusals.{ranges, inRange, dead, taken, needOf, missing}
 use Rattle.flow.proofs.Bools.{or-elim, or-l, or-r, and-l, and-r, and-i, or-false-l, or-false-r, and-false-l, by, no-both}
-use Rattle.flow.proofs.TableLaws.{some-of, some-at, is-in, set-cases}
+use Rattle.flow.proofs.TableLaws.{some-of, some-at, is-in, set-cases, untrue}
 use Rattle.flow.proofs.Reach.{process-range}
 use Rattle.flow.proofs.Rows.{target-lt, more-live, still-live}
 use Rattle.flow.proofs.Use.{used-target, used-open, used-mapped, used-process, used-kept}
@@ -237,7 +237,7 @@ module _ (s : Tables) (lf : length (s .feeders) ≡ 16) (lg : length (s .fed) �
     call kind = record { kind = kind; process = p; a = a; b = b; c = c }
 
     pub ends : (k : Kind) → Accepted s (call k) → Ends s (tablesBy s p a b c k) (lostBy s p a b c k)
-    unfolding tablesBy lostBy taken missing isOpen isBound isLive descriptor name ranges inRange dead isKind kindNumber
+    unfolding tablesBy lostBy taken needOf missing isOpen isBound isLive descriptor name ranges inRange dead isKind kindNumber
     ends start h = live-ends p
     ends openName h = open-ends (slot p b) (name s a) (h .free)
     ends create h =
@@ -254,7 +254,7 @@ module _ (s : Tables) (lf : length (s .feeders) ≡ 16) (lg : length (s .fed) �
     ends truncate h = nothing s (λ v hv u. u)
     ends mapRead h = links-end p _ _ hp (more (feedersOf s p) (descriptor s p a)) (λ v m. m)
     ends mapBoth h = links-end p _ _ hp (more (feedersOf s p) (descriptor s p a)) (more (feeds s p) (descriptor s p a))
-    ends unmap h = unmap-ends p a hp (not-false (has (feedersOf s p) a || has (feeds s p) a) (h .there))
+    ends unmap h = unmap-ends p a hp (not-false (has (feedersOf s p) a || has (feeds s p) a) (untrue _ 16 (h .there)))
     ends unlink h = unlink-ends a
     ends rename h = rename-ends a b (ltb-true b 128 (fits-b (ranges rename) (call rename) (h .fits)))
     ends link h = name-ends b (name s a) (h .free)

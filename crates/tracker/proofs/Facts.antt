@@ -15,10 +15,10 @@ use Rattle.flow.specs.Lists.{firstThat}
 use Rattle.flow.specs.Box.{closed, slot, containerOf, isFile, Tables, descriptor, isOpen}
 use Rattle.flow.specs.Calls.{Kind, kindNumber}
 use Rattle.flow.specs.Records.{kinds, kindOf, callBy, callFrom}
-use Rattle.flow.specs.Refusals.{Range, aProcess, aName, aContainer, aFile, anItem, unused, ranges, fieldsFit, inRange, missing, callTests}
+use Rattle.flow.specs.Refusals.{Range, aProcess, aName, aContainer, aFile, anItem, unused, ranges, fieldsFit, inRange, openDescriptor, needOf, missing, callTests}
 use Rattle.flow.proofs.Bools.{and-r}
 use Rattle.flow.proofs.KindLaws.{kind-at}
-use Rattle.flow.proofs.TableLaws.{AllFalse, all-false}
+use Rattle.flow.proofs.TableLaws.{AllNone, all-none, untrue}
 use Rattle.flow.proofs.Rows.{target-lt}
 use Rattle.flow.proofs.Accepted.{Accepted, fits-process, fits-a, fits-b, fits-c}
 use Rattle.store.specs.Maps.{view}
@@ -55,10 +55,10 @@ module _ (q : Call) where
 
 -- ---- the tests
 pub accepted : (t : Tables) (q : Call) (k : Kind) → firstThat (callTests t (some (asked q k))) ≡ none → Accepted t (asked q k)
-unfolding callTests AllFalse
+unfolding callTests AllNone
 accepted t q k e =
-    let g = all-false (callTests t (some (asked q k))) e in
-    record { fits = not-false (fieldsFit (ranges k) (asked q k)) (g .0); lives = g .1 .0; free = g .1 .1 .0; there = g .1 .1 .1 .0 }
+    let g = all-none (callTests t (some (asked q k))) e in
+    record { fits = not-false (fieldsFit (ranges k) (asked q k)) (untrue _ 5 (g .0)); lives = untrue _ 6 (g .1 .0); free = untrue _ 7 (g .1 .1 .0); there = g .1 .1 .1 .0 }
 
 module _ {words descriptors names : List ℕ} {q : Call} (h : Passes words descriptors names q) where
   at-kind : (k : Kind) → q .kind ≡ kindNumber k → Accepted (view words descriptors names .tables) (asked q k)
@@ -106,6 +106,6 @@ module _ {words descriptors names : List ℕ} {q : Call} (h : Passes words descr
     unfolding inRange isFile
     file-c r = ltb-true (q .c) 64 (and-r (leb 24 (q .c)) _ (rw r at (fits-c (ranges k) (asked q k) (at-kind k e .fits))))
 
-    pub leads-to : ((t : Tables) (p a b c : ℕ) → missing t p a b c k ≡ not (isOpen t p a)) → getD descriptors (slot (q .process) (q .a)) closed < 64
-    unfolding isOpen descriptor view
-    leads-to m = target-lt _ (not-false _ (sym (m _ _ _ (q .b) (q .c)) ∙ at-kind k e .there))
+    pub leads-to : needOf k ≡ openDescriptor → getD descriptors (slot (q .process) (q .a)) closed < 64
+    unfolding missing isOpen descriptor view
+    leads-to n = target-lt _ (not-false _ (untrue _ 14 (rw n at (at-kind k e .there))))

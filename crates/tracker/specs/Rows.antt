@@ -4,11 +4,11 @@ use mathlib.Core.Bool.{Bool, true, false, not}
 use mathlib.Core.Path.{_≡_}
 use mathlib.Core.List.{List}
 use mathlib.Core.Option.{Option, none, some}
-use Rattle.flow.specs.Lists.{firstThat}
+use Rattle.flow.specs.Lists.{Test, firstThat}
 use Rattle.flow.specs.Box.{Tables, isLive}
 use Rattle.flow.specs.Calls.{Kind, Call as Asked, tablesBy}
 use Rattle.flow.specs.Records.{callBy, callFrom}
-use Rattle.flow.specs.Refusals.{ranges, fieldsFit, dead, taken, missing, sameDescriptors, noFile, callTests}
+use Rattle.flow.specs.Refusals.{ranges, fieldsFit, dead, taken, needOf, missing, sameDescriptors, noFile, callTests}
 use Rattle.store.specs.Maps.{view}
 use Rattle.tracker.specs.declared.Call.{Call}
 
@@ -41,9 +41,14 @@ unfoldable pub takenAt : Tables → Call → Option Kind → Bool
 takenAt t q none = false
 takenAt t q (some k) = taken t (q .process) (q .a) (q .b) (q .c) k
 
-unfoldable pub missingAt : Tables → Call → Option Kind → Bool
-missingAt t q none = false
-missingAt t q (some k) = missing t (q .process) (q .a) (q .b) (q .c) k
+unfoldable pub missingAt : Tables → Call → Option Kind → Test
+missingAt t q none = none
+missingAt t q (some k) = missing t (q .process) (q .a) (needOf k)
+
+-- the number of what is missing as the code answers it: 0 where it is there
+unfoldable pub numberUnless : Bool → ℕ → ℕ
+numberUnless true n = 0
+numberUnless false n = n
 
 unfoldable pub sameAt : Call → Option Kind → Bool
 sameAt q none = false

@@ -80,8 +80,9 @@ fn first(words: &[u64; 97], descriptors: &[u8; 512], names: &[u8; 128], kind: u8
     if taken::holds(words, descriptors, names, kind, q) {
         return 7;
     }
-    if missing::holds(words, descriptors, names, kind, q) {
-        return 8;
+    let lacked = missing::holds(words, descriptors, names, kind, q);
+    if lacked != 0 {
+        return lacked;
     }
     if same::holds(kind, q) {
         return 9;

@@ -3,7 +3,7 @@ use mathlib.Core.Path.{_≡_, refl, sym, ap, _∙_}
 use mathlib.Core.Bool.{true, false, not}
 use lib.Dec.{eqb}
 use borrow.Author.Tests.{not-true, not-false, eq-eqb, ne-eqb}
-use Rattle.flow.specs.Lists.{firstThat, refusalFrom}
+use Rattle.flow.specs.Lists.{_⇒_, firstThat, refusalFrom}
 use Rattle.flow.specs.Records.{tagOf, cutShort, knownTag, wrongLength}
 use Rattle.records.proofs.Frames.{framed, tested}
 use borrow.Author.Needs.{needs}
@@ -22,7 +22,7 @@ unfolding tagOf
 length-wrong c = tested _ _ _ _ (c .before .stated-length .ensures) (c .before .before .before .before .at .ensures) (c .length-of .ensures)
 
 pub refusal-spec : {M : Type 1} → statement M
-unfolding firstThat refusalFrom
+unfolding firstThat _⇒_ refusalFrom
 refusal-spec =
     tie.close
     (tie.spec (λ c κs. search needs)

@@ -1,4 +1,5 @@
-// 8: what the call needs is not there.
+// What the call needs is not there (document 02, Paper 2): 14 descriptor closed, 15 name unbound, 16 no link to unmap, 8 container to label
+// not in use.
 use crate::Call;
 use store::lookups;
 use store::lookups::fed;
@@ -11,27 +12,36 @@ use store::numbers::Descriptor;
 use store::numbers::Name;
 use store::numbers::Process;
 ghost use mathlib.Core.Path.{_≡_};
+ghost use Rattle.flow.specs.Lists.{refusalFrom};
 ghost use Rattle.flow.specs.Records.{kindOf};
 ghost use Rattle.store.specs.Maps.{mapsBefore};
-ghost use Rattle.tracker.specs.Rows.{missingAt};
+ghost use Rattle.tracker.specs.Rows.{numberUnless, missingAt};
 
-pub fn holds(
-    words: &[u64; 97],
-    descriptors: &[u8; 512],
-    names: &[u8; 128],
-    kind: u8,
-    q: Call,
-) -> bool
-    ensures { λ r. ⌜ r ≡ missingAt (mapsBefore words descriptors names .tables) q (kindOf kind) ⌝ }
+// 0 where it is there.
+fn unless(there: bool, number: u8) -> u8
+    ensures { λ r. ⌜ r ≡ numberUnless there number ⌝ }
+{
+    if there {
+        return 0;
+    }
+    number
+}
+
+// Which of these holds, or 0.
+pub fn holds(words: &[u64; 97], descriptors: &[u8; 512], names: &[u8; 128], kind: u8, q: Call) -> u8
+    ensures { λ r. ⌜ refusalFrom r ≡ missingAt (mapsBefore words descriptors names .tables) q (kindOf kind) ⌝ }
 {
     let p = q.process;
     let a = q.a;
     match kind {
-        2 | 14 | 15 | 16 => !is_bound(names, Name(a)),
-        6 | 7 | 8 | 9 | 10 | 11 | 12 => !is_open(descriptors, Process(p), Descriptor(a)),
-        13 => !(lookups::holds(feeders(words, Process(p)), a)
-            | lookups::holds(fed(words, Process(p)), a)),
-        19 => !in_use(words, descriptors, names, Container(a)),
-        _ => false,
+        2 | 14 | 15 | 16 => unless(is_bound(names, Name(a)), 15),
+        6 | 7 | 8 | 9 | 10 | 11 | 12 => unless(is_open(descriptors, Process(p), Descriptor(a)), 14),
+        13 => unless(
+            lookups::holds(feeders(words, Process(p)), a)
+                | lookups::holds(fed(words, Process(p)), a),
+            16,
+        ),
+        19 => unless(in_use(words, descriptors, names, Container(a)), 8),
+        _ => 0,
     }
 }

@@ -7,7 +7,7 @@ use Rattle.sets.specs.Sets.{_∪_}
 use Rattle.flow.specs.Box.{descriptor}
 use Rattle.flow.specs.Calls.{Kind, write, mapBoth, fork, label, kindNumber, flowBy}
 use Rattle.flow.specs.Records.{kinds}
-use Rattle.flow.specs.Refusals.{ranges, missing}
+use Rattle.flow.specs.Refusals.{ranges, needOf}
 use Rattle.store.specs.declared.Plan.{Plan}
 use Rattle.store.specs.Maps.{view}
 use Rattle.tracker.specs.Plans.{planOf, planBy, planAt}
@@ -38,7 +38,7 @@ unfolding kindNumber ranges
 add-with c = omega (arith, process-a (c .before .pre) fork (c .match .keys4) refl)
 
 returns : tie.Need-returns
-unfolding view _∪_ planAt planBy planOf flowBy kinds descriptor kindNumber ranges missing
+unfolding view _∪_ planAt planBy planOf flowBy kinds descriptor kindNumber ranges needOf
 returns c =
     let m = c .before .before .before .before in
     let s = m .before in
@@ -47,26 +47,26 @@ returns c =
     rw (c .giving .ensures, c .before .reach .ensures D N, c .before .before .items .ensures, c .before .before .before .descriptor .ensures, process-itself (s .pre)) (kind-arm (row s) (8 ∷ 11 ∷ []) _ refl _ (m .match .keys1))
 
 returns-2 : tie.Need-returns-2
-unfolding view _∪_ planAt planBy planOf flowBy kinds descriptor kindNumber ranges missing
+unfolding view _∪_ planAt planBy planOf flowBy kinds descriptor kindNumber ranges needOf
 returns-2 c =
     let m = c .before .before .before .before in
     let s = m .before in
     let D = s .args .descriptors .now in
     let N = s .args .names .now in
-    rw (c .giving2 .ensures, c .before .reach2 .ensures D N, c .before .before .items2 .ensures, c .before .before .before .descriptor2 .ensures, below64 (leads-to (s .pre) write (m .match .keys2) (λ t p a b c. refl))) (kind-arm (row s) (9 ∷ []) _ refl _ (m .match .keys2))
+    rw (c .giving2 .ensures, c .before .reach2 .ensures D N, c .before .before .items2 .ensures, c .before .before .before .descriptor2 .ensures, below64 (leads-to (s .pre) write (m .match .keys2) refl)) (kind-arm (row s) (9 ∷ []) _ refl _ (m .match .keys2))
 
 returns-3 : tie.Need-returns-3
-unfolding view _∪_ planAt planBy planOf flowBy kinds descriptor kindNumber ranges missing
+unfolding view _∪_ planAt planBy planOf flowBy kinds descriptor kindNumber ranges needOf
 returns-3 c =
     let m = c .before .before .before .before .before in
     let s = m .before in
     let D = s .args .descriptors .now in
     let N = s .args .names .now in
     let c2 = c .before .before in
-    rw (c .reach4 .ensures D N, c .before .items4 .ensures, c2 .reach3 .ensures D N, c2 .before .items3 .ensures, c2 .before .before .descriptor3 .ensures, below64 (leads-to (s .pre) mapBoth (m .match .keys3) (λ t p a b c. refl)), process-itself (s .pre)) (kind-arm (row s) (12 ∷ []) _ refl _ (m .match .keys3))
+    rw (c .reach4 .ensures D N, c .before .items4 .ensures, c2 .reach3 .ensures D N, c2 .before .items3 .ensures, c2 .before .before .descriptor3 .ensures, below64 (leads-to (s .pre) mapBoth (m .match .keys3) refl), process-itself (s .pre)) (kind-arm (row s) (12 ∷ []) _ refl _ (m .match .keys3))
 
 returns-5 : tie.Need-returns-5
-unfolding view _∪_ planAt planBy planOf flowBy kinds descriptor kindNumber ranges missing
+unfolding view _∪_ planAt planBy planOf flowBy kinds descriptor kindNumber ranges needOf
 returns-5 c =
     let m = c .before .before .before in
     let s = m .before in
@@ -75,7 +75,7 @@ returns-5 c =
     rw (c .giving3 .ensures, c .before .reach5 .ensures D N, c .before .before .with2 .ensures, below64 (container-a (s .pre) label (m .match .keys5) refl), below64 (item-b (s .pre) label (m .match .keys5) refl)) (kind-arm (row s) (19 ∷ []) _ refl _ (m .match .keys5))
 
 pub plan-of-spec : {M : Type 1} → statement M
-unfolding view _∪_ planAt planBy planOf flowBy kinds descriptor kindNumber ranges missing
+unfolding view _∪_ planAt planBy planOf flowBy kinds descriptor kindNumber ranges needOf
 plan-of-spec =
     tie.close
     (tie.spec (λ c κs. search needs) add-own (λ c κs. search needs) (λ c κs. search needs) (λ c κs. search needs) (λ c κs. search needs) add-own-2 (λ c κs. search needs)

@@ -7,7 +7,7 @@ use mathlib.Core.Option.{Option}
 use Rattle.flow.specs.Box.{descriptor}
 use Rattle.flow.specs.Calls.{Kind, create, pipe, truncate, kindNumber}
 use Rattle.flow.specs.Records.{kinds}
-use Rattle.flow.specs.Refusals.{ranges, missing}
+use Rattle.flow.specs.Refusals.{ranges, needOf}
 use Rattle.store.specs.Maps.{view, containerSet}
 use Rattle.store.proofs.Files.{containerSet-low}
 use Rattle.tracker.specs.Plans.{emptiedBy, emptiedAt}
@@ -26,11 +26,11 @@ add-result : tie.Need-add-result
 add-result c = omega (arith, process-lt (c .before .pre))
 
 returns-4 : tie.Need-returns-4
-unfolding view emptiedAt emptiedBy kinds descriptor kindNumber missing
+unfolding view emptiedAt emptiedBy kinds descriptor kindNumber needOf
 returns-4 c =
     let m = c .before .before in
     let s = m .before in
-    rw (c .free .ensures (s .args .descriptors .now) (s .args .names .now), c .before .descriptor .ensures, free-entry _ _ (leads-to (s .pre) truncate (m .match .keys4) (λ t p a b c. refl))) (kind-arm (row s) (10 ∷ []) _ refl _ (m .match .keys4))
+    rw (c .free .ensures (s .args .descriptors .now) (s .args .names .now), c .before .descriptor .ensures, free-entry _ _ (leads-to (s .pre) truncate (m .match .keys4) refl)) (kind-arm (row s) (10 ∷ []) _ refl _ (m .match .keys4))
 
 pub emptied-by-spec : {M : Type 1} → statement M
 unfolding view emptiedAt emptiedBy kinds kindNumber ranges containerSet

@@ -1,11 +1,13 @@
 -- `first` is the first of the tests: each row is asked where none before it held.
-use mathlib.Core.Path.{_≡_, sym, _∙_}
+use mathlib.Core.Path.{_≡_, sym, ap, _∙_}
 use mathlib.Core.Bool.{true, false}
+use mathlib.Core.Option.{none}
 use borrow.Author.Tests.{not-true, not-false}
+use Rattle.flow.specs.Lists.{refusalFrom}
 use Rattle.flow.specs.Records.{kindOf}
 use Rattle.store.specs.Maps.{view}
 use Rattle.tracker.specs.Rows.{fitsAt, deadAt, takenAt, missingAt}
-use Rattle.tracker.proofs.Tests.{four-first, five-first, six-first, seven-first, eight-first, nine-first, ten-first, none-first}
+use Rattle.tracker.proofs.Tests.{four-first, five-first, six-first, seven-first, missing-first, nine-first, ten-first, none-first}
 use borrow.Author.Needs.{needs}
 use Rattle.tracker.proofs.rows.first.Statement.{statement}
 use Rattle.tracker.proofs.rows.first.Tie as tie
@@ -20,8 +22,9 @@ lives c = sym (c .before .holds .ensures) ∙ c .if3 .left
 free : (c : tie.Else4) → (let a = c .before .before .before .before .before .before .args in takenAt (view (a .words .now) (a .descriptors .now) (a .names .now) .tables) (a .q) (kindOf (a .kind)) ≡ false)
 free c = sym (c .before .holds2 .ensures) ∙ c .if4 .left
 
-there : (c : tie.Else5) → (let a = c .before .before .before .before .before .before .before .before .args in missingAt (view (a .words .now) (a .descriptors .now) (a .names .now) .tables) (a .q) (kindOf (a .kind)) ≡ false)
-there c = sym (c .before .holds3 .ensures) ∙ c .if5 .left
+there : (c : tie.Else5) → (let a = c .before .before .before .before .before .before .before .before .args in missingAt (view (a .words .now) (a .descriptors .now) (a .names .now) .tables) (a .q) (kindOf (a .kind)) ≡ none)
+unfolding refusalFrom
+there c = sym (c .before .holds3 .ensures) ∙ ap refusalFrom (c .if5 .left)
 
 returns-7 : tie.Need-returns-7
 returns-7 c =
@@ -52,7 +55,7 @@ first-spec =
     (λ c κs. search needs)
     (λ c. let c2 = c .before .before in seven-first _ _ _ (fit (c2 .before .before)) (lives c2) (sym (c .before .holds2 .ensures) ∙ c .if4 .taken))
     (λ c κs. search needs)
-    (λ c. let c2 = c .before .before in let c4 = c2 .before .before in eight-first _ _ _ (fit (c4 .before .before)) (lives c4) (free c2) (sym (c .before .holds3 .ensures) ∙ c .if5 .taken))
+    (λ c. let c2 = c .before .before in let c4 = c2 .before .before in missing-first _ _ _ (fit (c4 .before .before)) (lives c4) (free c2) _ (c .before .holds3 .ensures) (c .if5 .taken))
     (λ c κs. search needs)
     (λ c. let c2 = c .before .before in let c4 = c2 .before .before in let c6 = c4 .before .before in nine-first _ _ _ (fit (c6 .before .before)) (lives c6) (free c4) (there c2) (sym (c .before .holds4 .ensures) ∙ c .if6 .taken))
     (λ c κs. search needs) returns-7 returns-8)

@@ -5,7 +5,7 @@ use mathlib.Core.Option.{Option}
 use Rattle.flow.specs.Box.{descriptor, name, feedersOf, feeds}
 use Rattle.flow.specs.Calls.{Kind, openName, create, mapRead, mapBoth, unmap, unlink, rename, link, fork, kindNumber, withLive, withLinks, withDescriptors, withNames, tablesBy}
 use Rattle.flow.specs.Records.{kinds}
-use Rattle.flow.specs.Refusals.{ranges, missing}
+use Rattle.flow.specs.Refusals.{ranges, needOf}
 use Rattle.store.specs.Maps.{Maps, withTables, view}
 use Rattle.tracker.specs.Rows.{tablesAt}
 use Rattle.tracker.proofs.Arms.{kind-arm, kind-rest}
@@ -29,15 +29,15 @@ returns-9 c =
     let m = c .before .before .before .before in let s = m .before in c .map-both .ensures (s .args .descriptors .now) (s .args .names .now) ∙ rw (c .before .descriptor2 .ensures) (kind-arm (row s) (12 ∷ []) _ refl _ (m .match .keys9))
 
 pub change-tables-spec : {M : Type 1} → statement M
-unfolding kindNumber missing ranges view withLive withLinks withDescriptors withNames tablesAt tablesBy kinds descriptor name feedersOf feeds
+unfolding kindNumber needOf ranges view withLive withLinks withDescriptors withNames tablesAt tablesBy kinds descriptor name feedersOf feeds
 change-tables-spec =
     tie.close
     (tie.spec (λ c κs. process-lt (c .before .before .pre))
     (λ c κs. search needs) (λ c κs. search needs) (λ c κs. search needs) (λ c κs. search needs) (λ c κs. search needs) (λ c κs. search needs) (λ c κs. search needs)
     (λ c κs. search needs) (λ c κs. search needs) (λ c κs. search needs)
-    (λ c κs. let m = c .before .before .before in (process-lt (m .before .pre), rw (c .descriptor .ensures) (leads-to (m .before .pre) mapRead (m .match .keys8) (λ t p a b c. refl))))
+    (λ c κs. let m = c .before .before .before in (process-lt (m .before .pre), rw (c .descriptor .ensures) (leads-to (m .before .pre) mapRead (m .match .keys8) refl)))
     (λ c κs. search needs)
-    (λ c κs. let m = c .before .before .before in (process-lt (m .before .pre), rw (c .descriptor2 .ensures) (leads-to (m .before .pre) mapBoth (m .match .keys9) (λ t p a b c. refl))))
+    (λ c κs. let m = c .before .before .before in (process-lt (m .before .pre), rw (c .descriptor2 .ensures) (leads-to (m .before .pre) mapBoth (m .match .keys9) refl)))
     (λ c κs. let m = c .before in (process-lt (m .before .pre), container-a (m .before .pre) unmap (m .match .keys10) refl))
     (λ c κs. search needs) (λ c κs. search needs) (λ c κs. search needs)
     (λ c κs. let m = c .before .before in (process-lt (m .before .pre), process-a (m .before .pre) fork (m .match .keys14) refl))
