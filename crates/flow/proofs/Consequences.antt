@@ -6,8 +6,10 @@ use mathlib.Core.Path.{_≡_, refl, sym, ap, _∙_}
 use mathlib.Core.Bool.{Bool, true, false, _&&_}
 use mathlib.Core.List.{List, [], _∷_, _++_, map, append-nil, append-assoc}
 use mathlib.Core.Option.{Option, none, some}
+use lib.Dec.{eqb}
 use lib.ListN.{getD, length, take, length-append, List·getD-append}
 use lib.Seq.{getD-append-seam}
+use borrow.Author.Tests.{eq-eqb}
 use Rattle.flow.specs.Lists.{isIn, firstThat, isNone}
 use Rattle.flow.specs.Box.{Rule, State, holds}
 use Rattle.flow.specs.Calls.{Call, Change, change, after}
@@ -17,9 +19,9 @@ use Rattle.flow.specs.Refusals.{needOf, missing, callTests, testsOf, ref
 use Rattle.flow.specs.Verdicts.{Outcome, refuses, loads, allows, inhibits, modifies, diversion, mayDivert, breaksNone, stopped, verdictBy, verdict, outcomeOfCall, outcomeOfRule, outcomeOf, outcome, refused, rule, allow, inhibit, answerOf, answer, stateAfter, next, answerAll, runLog}
 use Rattle.flow.specs.Contents.{Step, entry, memory, stepState, stateAt}
 use Rattle.flow.specs.Consequences.{RefusedExactly, places, placeIn, placeOf, NumberTells, PassedBreaksNone, VerdictExactly, NoGainAllowed, StoppedKeeps, OneAnswerEach, AnswersInOrder, LogIsSteps}
-use Rattle.flow.proofs.Bools.{choice}
+use Rattle.flow.proofs.Bools.{choice, no-both}
 use Rattle.flow.proofs.TableLaws.{none-is}
-use Rattle.flow.proofs.Refused.{refusal-read, refused-exactly, need-cases, lacking}
+use Rattle.flow.proofs.Refused.{refusal-read, refused-exactly, need-cases, call-lacks}
 use Rattle.flow.proofs.Judging.{none-broken}
 
 -- ---- no rule is broken after a change
@@ -81,19 +83,22 @@ call-verdict s bytes q e f =
     rw (r, h) refl
 
 -- ---- what a call lacked
+other : {n m : ℕ} {A B P : Type 0} → eqb n m ≡ false → n ≡ m → A → B → P
+other d e a b = no-both (eq-eqb _ _ e) d
+
 pub number-tells : NumberTells
 unfolding NumberTells callOf testsOf RefusedExactly placeOf places placeIn isIn
 number-tells s bytes q f = (
-  λ e. need-cases (s .tables) (q .process) (q .a) (needOf (q .kind)) 14 (lacks 14 refl e) (λ n y z. (y, z)) (λ n y z. absurd (let w : ⊥ = omega arith in w)) (λ n y z. absurd (let w : ⊥ = omega arith in w)) (λ n y z. absurd (let w : ⊥ = omega arith in w)),
-  λ e. need-cases (s .tables) (q .process) (q .a) (needOf (q .kind)) 15 (lacks 15 refl e) (λ n y z. absurd (let w : ⊥ = omega arith in w)) (λ n y z. (y, z)) (λ n y z. absurd (let w : ⊥ = omega arith in w)) (λ n y z. absurd (let w : ⊥ = omega arith in w)),
-  λ e. need-cases (s .tables) (q .process) (q .a) (needOf (q .kind)) 16 (lacks 16 refl e) (λ n y z. absurd (let w : ⊥ = omega arith in w)) (λ n y z. absurd (let w : ⊥ = omega arith in w)) (λ n y z. (y, z)) (λ n y z. absurd (let w : ⊥ = omega arith in w)),
-  λ e. need-cases (s .tables) (q .process) (q .a) (needOf (q .kind)) 8 (lacks 8 refl e) (λ n y z. absurd (let w : ⊥ = omega arith in w)) (λ n y z. absurd (let w : ⊥ = omega arith in w)) (λ n y z. absurd (let w : ⊥ = omega arith in w)) (λ n y z. (y, z)),
+  λ e. need-cases (s .tables) (q .process) (q .a) (needOf (q .kind)) 14 (lacks 14 refl e) (λ n y z. (y, z)) (other refl) (other refl) (other refl),
+  λ e. need-cases (s .tables) (q .process) (q .a) (needOf (q .kind)) 15 (lacks 15 refl e) (other refl) (λ n y z. (y, z)) (other refl) (other refl),
+  λ e. need-cases (s .tables) (q .process) (q .a) (needOf (q .kind)) 16 (lacks 16 refl e) (other refl) (other refl) (λ n y z. (y, z)) (other refl),
+  λ e. need-cases (s .tables) (q .process) (q .a) (needOf (q .kind)) 8 (lacks 8 refl e) (other refl) (other refl) (other refl) (λ n y z. (y, z)),
 )
   where
     lacks : (n : ℕ) → placeOf n ≡ placeOf 8 → answer s bytes ≡ refused n → missing (s .tables) (q .process) (q .a) (needOf (q .kind)) ≡ some n
     lacks n at e =
         let h : firstThat (testsOf s (reading bytes)) ≡ some n = sym (refusal-read s bytes) ∙ refused-exactly s bytes n .0 e in
-        lacking (s .tables) q n at (rw (read-call (reading bytes) q f) at h)
+        call-lacks (s .tables) q n at (rw (read-call (reading bytes) q f) at h)
 
 inhibited : (x : Numbered) (d : Change) (b w : Bool) → (b && w) ≡ false
     → _≡_ {A = Outcome} (elim b as (λ z. Outcome) [ true ↦ elim w as (λ z. Outcome) [ true ↦ modifies (x .number) (x .rule .substitute) d | false ↦ inhibits (x .number) ] | false ↦ inhibits (x .number) ]) (inhibits (x .number))

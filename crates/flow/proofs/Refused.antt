@@ -4,12 +4,12 @@ use native.Mathlib.Nat.{le-refl}
 use native.Mathlib.Omega.{arith}
 use mathlib.Core.Path.{_≡_, refl, sym, ap, _∙_}
 use mathlib.Core.Logic.{_↔_}
-use mathlib.Core.Bool.{Bool, true, false, not, _||_}
+use mathlib.Core.Bool.{Bool, true, false, _&&_, _||_}
 use mathlib.Core.List.{List, [], _∷_, _++_}
 use mathlib.Core.Option.{Option, none, some}
-use lib.Dec.{eqb}
+use lib.Dec.{leb, eqb}
 use lib.ListN.{getD}
-use borrow.Author.Tests.{not-true}
+use borrow.Author.Tests.{leb-true, not-true}
 use Rattle.sets.specs.Sets.{has}
 use Rattle.flow.specs.Lists.{isIn, Test, _⇒_, firstThat}
 use Rattle.flow.specs.Box.{Rule, Tables, State, feedersOf, feeds, isOpen, isBound}
@@ -19,8 +19,8 @@ use Rattle.flow.specs.Rules.{Numbered, lowestBroken}
 use Rattle.flow.specs.Records.{tagOf, callTag, valueOf, callIn, ruleIn, Reading, unreadable, aCall, aRule, frameTests, contentOf, readingBy, reading}
 use Rattle.flow.specs.Refusals.{Need, noNeed, openDescriptor, boundName, aLink, usedContainer, needOf, missing, callTests, fieldTests, ruleTests, testsOf, recordTests, refusal}
 use Rattle.flow.specs.Verdicts.{Outcome, refuses, loads, allows, inhibits, modifies, diversion, mayDivert, breaksNone, stopped, verdictBy, verdict, outcomeOfCall, outcomeOfRule, outcomeOf, outcome, refused, answerOf, answer}
-use Rattle.flow.specs.Consequences.{RefusedExactly, FirstDecides, Applies, this-test, later-test, places, placeIn, placeOf, EarliestPlace, OneOfAPlace}
-use Rattle.flow.proofs.Bools.{choice}
+use Rattle.flow.specs.Consequences.{RefusedExactly, FirstDecides, Applies, this-test, later-test, places, placeIn, placeOf, StandAt, TestsInPlace, EarliestPlace, OneOfAPlace}
+use Rattle.flow.proofs.Bools.{and-l, and-r, choice}
 use Rattle.flow.proofs.TableLaws.{first-some, first-none, holding}
 
 -- the outcome is no refusal
@@ -105,53 +105,67 @@ pub first-decides : FirstDecides
 unfolding FirstDecides refusal
 first-decides s bytes n = (first-at (recordTests s bytes) n, λ h. at-first (recordTests s bytes) n (h .0) (h .1) (h .2))
 
--- ---- the tests stand at rising places: each has one, behind those of all before it
--- a number, its place, and that it is a byte
-unfoldable At : ℕ → ℕ → Type 0
-At p n = (placeOf n ≡ p) × (n < 256)
+-- ---- the tests stand at the places of some numbers
+-- as StandAt, and each refuses with bytes alone
+unfoldable Stand : List ℕ → List Test → Type 0
+Stand [] [] = Unit {0}
+Stand (m ∷ ms) (t ∷ ts) = ((n : ℕ) → t ≡ some n → (placeOf n ≡ placeOf m) × (n < 256)) × Stand ms ts
+Stand [] (t ∷ ts) = ⊥
+Stand (m ∷ ms) [] = ⊥
 
-unfoldable Climbs : ℕ → List Test → Type 0
-Climbs k [] = Unit {0}
-Climbs k (t ∷ ts) = (p : ℕ) × (k ≤ p) × ((n : ℕ) → t ≡ some n → At p n) × Climbs (suc p) ts
+stand-at : (ms : List ℕ) (ts : List Test) → Stand ms ts → StandAt ms ts
+unfolding Stand StandAt
+stand-at [] [] c = tt
+stand-at (m ∷ ms) (t ∷ ts) c = (λ n e. c .0 n e .0, stand-at ms ts (c .1))
+stand-at [] (t ∷ ts) c = c
+stand-at (m ∷ ms) [] c = c
 
-above : (k m : ℕ) (ts : List Test) → Climbs k ts → Applies m ts → k ≤ placeOf m
-unfolding Climbs At
-above k m (t ∷ ts) c (this-test e) = omega (arith, c .1, c .2 m e .0)
-above k m (t ∷ ts) c (later-test a) = omega (arith, c .1, above (suc (c .0)) m ts (c .3) a)
+first-byte : (n : ℕ) (ms : List ℕ) (ts : List Test) → Stand ms ts → firstThat ts ≡ some n → n < 256
+unfolding Stand firstThat
+first-byte n [] [] c e = absurd (let z : _≡_ {A = ℕ} 0 1 = cc in let y : ⊥ = omega arith in y)
+first-byte n (m ∷ ms) (some k ∷ ts) c e = c .0 n e .1
+first-byte n (m ∷ ms) (none ∷ ts) c e = first-byte n ms ts (c .1) e
+first-byte n [] (t ∷ ts) c e = absurd c
+first-byte n (m ∷ ms) [] c e = absurd c
 
-earliest : (k n m : ℕ) (ts : List Test) → Climbs k ts → firstThat ts ≡ some n → Applies m ts → placeOf n ≤ placeOf m
-unfolding Climbs At firstThat
-earliest k n m (some j ∷ ts) c e (this-test f) = let q : n ≡ m = cc in rw q (le-refl (placeOf m))
-earliest k n m (some j ∷ ts) c e (later-test a) = omega (arith, c .2 n e .0, above (suc (c .0)) m ts (c .3) a)
-earliest k n m (none ∷ ts) c e (this-test f) = absurd (let z : _≡_ {A = ℕ} 0 1 = cc in let y : ⊥ = omega arith in y)
-earliest k n m (none ∷ ts) c e (later-test a) = earliest (suc (c .0)) n m ts (c .3) e a
+-- the places rise, from k on
+climbs : ℕ → List ℕ → Bool
+climbs k [] = true
+climbs k (m ∷ ms) = leb k (placeOf m) && climbs (suc (placeOf m)) ms
 
-one-of : (k n m : ℕ) (ts : List Test) → Climbs k ts → Applies n ts → Applies m ts → placeOf n ≡ placeOf m → n ≡ m
-unfolding Climbs At
-one-of k n m (t ∷ ts) c (this-test e) (this-test f) q = cc
-one-of k n m (t ∷ ts) c (this-test e) (later-test b) q = absurd (let y : ⊥ = omega (arith, q, c .2 n e .0, above (suc (c .0)) m ts (c .3) b) in y)
-one-of k n m (t ∷ ts) c (later-test a) (this-test f) q = absurd (let y : ⊥ = omega (arith, q, c .2 m f .0, above (suc (c .0)) n ts (c .3) a) in y)
-one-of k n m (t ∷ ts) c (later-test a) (later-test b) q = one-of (suc (c .0)) n m ts (c .3) a b q
+first-place : (k m : ℕ) (ms : List ℕ) → climbs k (m ∷ ms) ≡ true → (k ≤ placeOf m) × (climbs (suc (placeOf m)) ms ≡ true)
+unfolding climbs
+first-place k m ms h = (leb-true k (placeOf m) (and-l _ (climbs (suc (placeOf m)) ms) h), and-r (leb k (placeOf m)) _ h)
 
-first-byte : (k n : ℕ) (ts : List Test) → Climbs k ts → firstThat ts ≡ some n → n < 256
-unfolding Climbs At firstThat
-first-byte k n [] c e = absurd (let z : _≡_ {A = ℕ} 0 1 = cc in let y : ⊥ = omega arith in y)
-first-byte k n (some m ∷ ts) c e = c .2 n e .1
-first-byte k n (none ∷ ts) c e = first-byte (suc (c .0)) n ts (c .3) e
+above : (k n : ℕ) (ms : List ℕ) (ts : List Test) → climbs k ms ≡ true → StandAt ms ts → Applies n ts → k ≤ placeOf n
+unfolding StandAt
+above k n (m ∷ ms) (t ∷ ts) h c (this-test e) = omega (arith, first-place k m ms h .0, c .0 n e)
+above k n (m ∷ ms) (t ∷ ts) h c (later-test a) = let d = first-place k m ms h in omega (arith, d .0, above (suc (placeOf m)) n ms ts (d .1) (c .1) a)
+above k n [] (t ∷ ts) h c a = absurd c
 
--- one more test
-climb : (k p : ℕ) (t : Test) (ts : List Test) → k ≤ p → ((n : ℕ) → t ≡ some n → At p n) → Climbs (suc p) ts → Climbs k (t ∷ ts)
-unfolding Climbs
-climb k p t ts l f c = (p, l, f, c)
+earliest : (k n i : ℕ) (ms : List ℕ) (ts : List Test) → climbs k ms ≡ true → StandAt ms ts → firstThat ts ≡ some n → Applies i ts → placeOf n ≤ placeOf i
+unfolding StandAt firstThat
+earliest k n i (m ∷ ms) (some j ∷ ts) h c e (this-test f) = let q : n ≡ i = cc in rw q (le-refl (placeOf i))
+earliest k n i (m ∷ ms) (some j ∷ ts) h c e (later-test a) =
+    omega (arith, c .0 n e, above (suc (placeOf m)) i ms ts (first-place k m ms h .1) (c .1) a)
+earliest k n i (m ∷ ms) (none ∷ ts) h c e (this-test f) = absurd (let z : _≡_ {A = ℕ} 0 1 = cc in let y : ⊥ = omega arith in y)
+earliest k n i (m ∷ ms) (none ∷ ts) h c e (later-test a) = earliest (suc (placeOf m)) n i ms ts (first-place k m ms h .1) (c .1) e a
+earliest k n i [] (t ∷ ts) h c e a = absurd c
 
-no-more : (k : ℕ) → Climbs k []
-unfolding Climbs
-no-more k = tt
+one-of : (k n i : ℕ) (ms : List ℕ) (ts : List Test) → climbs k ms ≡ true → StandAt ms ts → Applies n ts → Applies i ts → placeOf n ≡ placeOf i → n ≡ i
+unfolding StandAt
+one-of k n i (m ∷ ms) (t ∷ ts) h c (this-test e) (this-test f) q = cc
+one-of k n i (m ∷ ms) (t ∷ ts) h c (this-test e) (later-test b) q =
+    absurd (let y : ⊥ = omega (arith, q, c .0 n e, above (suc (placeOf m)) i ms ts (first-place k m ms h .1) (c .1) b) in y)
+one-of k n i (m ∷ ms) (t ∷ ts) h c (later-test a) (this-test f) q =
+    absurd (let y : ⊥ = omega (arith, q, c .0 i f, above (suc (placeOf m)) n ms ts (first-place k m ms h .1) (c .1) a) in y)
+one-of k n i (m ∷ ms) (t ∷ ts) h c (later-test a) (later-test b) q = one-of (suc (placeOf m)) n i ms ts (first-place k m ms h .1) (c .1) a b q
+one-of k n i [] (t ∷ ts) h c a b q = absurd c
 
+-- ---- those of a record
 -- a test of a condition has the place of its number
-placed : (b : Bool) (n : ℕ) → n < 256 → (m : ℕ) → (b ⇒ n) ≡ some m → At (placeOf n) m
-unfolding At
-placed b n l m e = rw (holding b n m e .1) (refl, l)
+placed : (b : Bool) (m : ℕ) → m < 256 → (n : ℕ) → (b ⇒ m) ≡ some n → (placeOf n ≡ placeOf m) × (n < 256)
+placed b m l n e = rw (holding b m n e .1) (refl, l)
 
 -- what is missing, by what the call needs
 module _ (t : Tables) (p a : ℕ) where
@@ -166,62 +180,87 @@ module _ (t : Tables) (p a : ℕ) where
   need-cases usedContainer n e f g h k = let d = holding _ 8 n e in k (d .1) refl (not-true _ (d .0))
 
   -- it has the place of 8
-  missing-placed : (x : Need) (m : ℕ) → missing t p a x ≡ some m → At (placeOf 8) m
-  unfolding At placeOf places placeIn isIn
-  missing-placed x m e = need-cases x m e (λ n y z. rw n (refl, omega arith)) (λ n y z. rw n (refl, omega arith)) (λ n y z. rw n (refl, omega arith)) (λ n y z. rw n (refl, omega arith))
+  missing-placed : (x : Need) (n : ℕ) → missing t p a x ≡ some n → (placeOf n ≡ placeOf 8) × (n < 256)
+  unfolding placeOf places placeIn isIn
+  missing-placed x n e = need-cases x n e (λ d y z. rw d (refl, omega arith)) (λ d y z. rw d (refl, omega arith)) (λ d y z. rw d (refl, omega arith)) (λ d y z. rw d (refl, omega arith))
 
-frame-climbs : (bytes : List ℕ) (ts : List Test) → Climbs 3 ts → Climbs 0 (frameTests bytes ++ ts)
-unfolding frameTests placeOf places placeIn isIn
-frame-climbs bytes ts c =
-    climb 0 0 _ _ (omega arith) (placed _ 1 (omega arith))
-    (climb 1 1 _ _ (omega arith) (placed _ 2 (omega arith)) (climb 2 2 _ _ (omega arith) (placed _ 3 (omega arith)) c))
+frame-stands : (bytes : List ℕ) → Stand (1 ∷ 2 ∷ 3 ∷ []) (frameTests bytes)
+unfolding Stand frameTests
+frame-stands bytes = (placed _ 1 (omega arith), (placed _ 2 (omega arith), (placed _ 3 (omega arith), tt)))
 
-call-climbs : (t : Tables) (q : Option Call) → Climbs 3 (callTests t q)
-unfolding callTests At placeOf places placeIn isIn
-call-climbs t none = climb 3 3 _ _ (omega arith) (λ n e. let d : n ≡ 4 = cc in rw d (refl, omega arith)) (no-more 4)
-call-climbs t (some q) =
-    climb 3 4 _ _ (omega arith) (placed _ 5 (omega arith))
-    (climb 5 5 _ _ (omega arith) (placed _ 6 (omega arith))
-    (climb 6 6 _ _ (omega arith) (placed _ 7 (omega arith))
-    (climb 7 7 _ _ (omega arith) (missing-placed t (q .process) (q .a) (needOf (q .kind)))
-    (climb 8 8 _ _ (omega arith) (placed _ 9 (omega arith)) (climb 9 9 _ _ (omega arith) (placed _ 10 (omega arith)) (no-more 10))))))
+call-stands : (t : Tables) (q : Call) → Stand (5 ∷ 6 ∷ 7 ∷ 8 ∷ 9 ∷ 10 ∷ []) (callTests t (some q))
+unfolding Stand callTests
+call-stands t q = (
+  placed _ 5 (omega arith),
+  (
+    placed _ 6 (omega arith),
+    (
+      placed _ 7 (omega arith),
+      (missing-placed t (q .process) (q .a) (needOf (q .kind)), (placed _ 9 (omega arith), (placed _ 10 (omega arith), tt))),
+    ),
+  ),
+)
 
-rule-climbs : (s : State) (r : Rule) → Climbs 3 (ruleTests s r)
-unfolding ruleTests fieldTests placeOf places placeIn isIn
-rule-climbs s r =
-    climb 3 3 _ _ (omega arith) (placed _ 4 (omega arith))
-    (climb 4 4 _ _ (omega arith) (placed _ 5 (omega arith))
-    (climb 5 8 _ _ (omega arith) (placed _ 9 (omega arith))
-    (climb 9 10 _ _ (omega arith) (placed _ 11 (omega arith)) (climb 11 11 _ _ (omega arith) (placed _ 12 (omega arith)) (no-more 12)))))
+unknown-stands : (t : Tables) → Stand (4 ∷ []) (callTests t none)
+unfolding Stand callTests
+unknown-stands t = (λ n e. let d : n ≡ 4 = cc in rw d (refl, omega arith), tt)
 
-content-climbs : (s : State) (bytes : List ℕ) → Climbs 3 (testsOf s (contentOf bytes))
-unfolding contentOf testsOf
-content-climbs s bytes =
-    choice (λ x. Climbs 3 (testsOf s x)) (eqb (tagOf bytes) callTag) (aCall (callIn (valueOf bytes))) (aRule (ruleIn (tagOf bytes) (valueOf bytes)))
-    (λ e. call-climbs (s .tables) (callIn (valueOf bytes))) (λ e. rule-climbs s (ruleIn (tagOf bytes) (valueOf bytes)))
+rule-stands : (s : State) (r : Rule) → Stand (4 ∷ 5 ∷ 9 ∷ 11 ∷ 12 ∷ []) (ruleTests s r)
+unfolding Stand ruleTests fieldTests
+rule-stands s r = (
+  placed _ 4 (omega arith),
+  (placed _ 5 (omega arith), (placed _ 9 (omega arith), (placed _ 11 (omega arith), (placed _ 12 (omega arith), tt)))),
+)
 
-tests-climb : (s : State) (bytes : List ℕ) → Climbs 0 (recordTests s bytes)
-unfolding recordTests
-tests-climb s bytes = frame-climbs bytes _ (content-climbs s bytes)
+pub tests-in-place : TestsInPlace
+unfolding TestsInPlace
+tests-in-place = (
+  λ bytes. stand-at _ _ (frame-stands bytes),
+  λ t q. stand-at _ _ (call-stands t q),
+  λ t. stand-at _ _ (unknown-stands t),
+  λ s r. stand-at _ _ (rule-stands s r),
+)
+
+-- all of its tests, at places that rise
+abbrev Placed : List Test → Type 0
+Placed ts = (ms : List ℕ) × (climbs 3 ms ≡ true) × StandAt ms ts
+
+content-placed : (s : State) (bytes : List ℕ) → Placed (testsOf s (contentOf bytes))
+unfolding contentOf testsOf climbs placeOf places placeIn isIn
+content-placed s bytes =
+    choice (λ x. Placed (testsOf s x)) (eqb (tagOf bytes) callTag) (aCall (callIn (valueOf bytes))) (aRule (ruleIn (tagOf bytes) (valueOf bytes)))
+    (λ e. of-call (callIn (valueOf bytes))) (λ e. (_, refl, stand-at _ _ (rule-stands s (ruleIn (tagOf bytes) (valueOf bytes)))))
+  where
+    of-call : (q : Option Call) → Placed (callTests (s .tables) q)
+    of-call none = (_, refl, stand-at _ _ (unknown-stands (s .tables)))
+    of-call (some q) = (_, refl, stand-at _ _ (call-stands (s .tables) q))
+
+tests-placed : (s : State) (bytes : List ℕ) → (ms : List ℕ) × (climbs 0 ms ≡ true) × StandAt ms (recordTests s bytes)
+unfolding recordTests frameTests StandAt climbs placeOf places placeIn isIn
+tests-placed s bytes =
+    let f = stand-at _ _ (frame-stands bytes) in
+    let c = content-placed s bytes in
+    (1 ∷ 2 ∷ 3 ∷ c .0, c .1, (f .0, (f .1 .0, (f .1 .1 .0, c .2))))
 
 -- ---- numbers are bytes
 pub frame-byte : (bytes : List ℕ) (n : ℕ) → firstThat (frameTests bytes) ≡ some n → n < 256
-frame-byte bytes n e = first-byte 0 n _ (frame-climbs bytes [] (no-more 3)) (first-some (frameTests bytes) [] n e)
+frame-byte bytes n e = first-byte n _ (frameTests bytes) (frame-stands bytes) e
 
 pub call-byte : (t : Tables) (q : Option Call) (n : ℕ) → firstThat (callTests t q) ≡ some n → n < 256
-call-byte t q n e = first-byte 3 n (callTests t q) (call-climbs t q) e
+call-byte t none n e = first-byte n _ (callTests t none) (unknown-stands t) e
+call-byte t (some q) n e = first-byte n _ (callTests t (some q)) (call-stands t q) e
 
 pub rule-byte : (s : State) (r : Rule) (n : ℕ) → firstThat (ruleTests s r) ≡ some n → n < 256
-rule-byte s r n e = first-byte 3 n (ruleTests s r) (rule-climbs s r) e
+rule-byte s r n e = first-byte n _ (ruleTests s r) (rule-stands s r) e
 
 -- ---- the earliest place
 pub earliest-place : EarliestPlace
 unfolding EarliestPlace refusal
-earliest-place s bytes n m e a = earliest 0 n m (recordTests s bytes) (tests-climb s bytes) e a
+earliest-place s bytes n m e a = let c = tests-placed s bytes in earliest 0 n m (c .0) (recordTests s bytes) (c .1) (c .2) e a
 
 pub one-of-a-place : OneOfAPlace
 unfolding OneOfAPlace
-one-of-a-place s bytes n m a b q = one-of 0 n m (recordTests s bytes) (tests-climb s bytes) a b q
+one-of-a-place s bytes n m a b q = let c = tests-placed s bytes in one-of 0 n m (c .0) (recordTests s bytes) (c .1) (c .2) a b q
 
 -- ---- the numbers of the place of 8
 first-applies : (ts : List Test) (n : ℕ) → firstThat ts ≡ some n → Applies n ts
@@ -231,9 +270,9 @@ first-applies (some m ∷ ts) n e = this-test e
 first-applies (none ∷ ts) n e = later-test (first-applies ts n e)
 
 -- a call that is refused with one of them lacks what it needs
-pub lacking : (t : Tables) (q : Call) (n : ℕ) → placeOf n ≡ placeOf 8 → firstThat (callTests t (some q)) ≡ some n → missing t (q .process) (q .a) (needOf (q .kind)) ≡ some n
+pub call-lacks : (t : Tables) (q : Call) (n : ℕ) → placeOf n ≡ placeOf 8 → firstThat (callTests t (some q)) ≡ some n → missing t (q .process) (q .a) (needOf (q .kind)) ≡ some n
 unfolding callTests placeOf places placeIn isIn
-lacking t q n at e = go (first-applies (callTests t (some q)) n e)
+call-lacks t q n at e = go (first-applies (callTests t (some q)) n e)
   where
     -- a test of a condition stands elsewhere
     not-here : {P : Type 0} (b : Bool) (m : ℕ) → (placeOf m ≡ 7 → ⊥) → (b ⇒ m) ≡ some n → P

@@ -10,12 +10,12 @@ use lib.Dec.{ltb}
 use lib.ListN.{getD, length, take, drop}
 use Rattle.sets.specs.Sets.{has}
 use Rattle.flow.specs.Lists.{isIn, Test}
-use Rattle.flow.specs.Box.{containerCount, itemCount, processCount, descriptorCount, containerOf, Rule, State, itemsOf, feedersOf, feeds, holds, descriptor, isOpen, isBound}
+use Rattle.flow.specs.Box.{containerCount, itemCount, processCount, descriptorCount, containerOf, Rule, Tables, State, itemsOf, feedersOf, feeds, holds, descriptor, isOpen, isBound}
 use Rattle.flow.specs.Links.{linked, used}
 use Rattle.flow.specs.Calls.{Kind, fork, kindNumber, Call, Change, change, after}
 use Rattle.flow.specs.Rules.{broken, Numbered, lowestBroken}
-use Rattle.flow.specs.Records.{recordLength, kindOf, callOf, recordsOf}
-use Rattle.flow.specs.Refusals.{openDescriptor, boundName, aLink, usedContainer, needOf, recordTests, refusal}
+use Rattle.flow.specs.Records.{recordLength, kindOf, frameTests, callOf, recordsOf}
+use Rattle.flow.specs.Refusals.{openDescriptor, boundName, aLink, usedContainer, needOf, callTests, ruleTests, recordTests, refusal}
 use Rattle.flow.specs.Verdicts.{allows, inhibits, modifies, diversion, mayDivert, breaksNone, outcome, refused, allow, inhibit, answer, next, answerAll, runLog}
 use Rattle.flow.specs.Queries.{Reply, refuse, result, holders, holdersQuery, holdersSlice}
 use Rattle.flow.specs.Contents.{Step, entry, stateAt}
@@ -60,6 +60,21 @@ placeIn (l ∷ ls) n = elim (isIn n l) [ true ↦ 0 | false ↦ suc (placeIn ls 
 
 unfoldable pub placeOf : ℕ → ℕ
 placeOf n = placeIn places n
+
+-- as many tests as numbers, each at the place of its number: it refuses with numbers of that place alone
+unfoldable pub StandAt : List ℕ → List Test → Type 0
+StandAt [] [] = Unit {0}
+StandAt (m ∷ ms) (t ∷ ts) = ((n : ℕ) → t ≡ some n → placeOf n ≡ placeOf m) × StandAt ms ts
+StandAt [] (t ∷ ts) = ⊥
+StandAt (m ∷ ms) [] = ⊥
+
+-- the places of a record's frame, of a call, of one whose kind is unknown, and of a rule
+unfoldable pub TestsInPlace : Type 0
+TestsInPlace =
+    ((bytes : List ℕ) → StandAt (1 ∷ 2 ∷ 3 ∷ []) (frameTests bytes))
+    × ((t : Tables) (q : Call) → StandAt (5 ∷ 6 ∷ 7 ∷ 8 ∷ 9 ∷ 10 ∷ []) (callTests t (some q)))
+    × ((t : Tables) → StandAt (4 ∷ []) (callTests t none))
+    × ((s : State) (r : Rule) → StandAt (4 ∷ 5 ∷ 9 ∷ 11 ∷ 12 ∷ []) (ruleTests s r))
 
 -- the number of a refusal has the earliest place of all that apply
 unfoldable pub EarliestPlace : Type 0
