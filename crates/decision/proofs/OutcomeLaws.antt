@@ -4,10 +4,10 @@
 use Prim.Native.Nat.{ℕ, suc, _+_, _^_, _≤_, _<_}
 use native.Mathlib.Omega.{arith}
 use mathlib.Core.Path.{_≡_, refl, _∙_}
-use mathlib.Core.Bool.{Bool, true, false, _&&_}
+use mathlib.Core.Bool.{true}
 use mathlib.Core.List.{List, [], _∷_}
 use mathlib.Core.Option.{Option, none, some}
-use lib.Dec.{ltb, eqb}
+use lib.Dec.{eqb}
 use lib.ListN.{length, set, length-set, length-append}
 use borrow.Author.Tests.{ltb-true, leb-false, not-false}
 use Rattle.sets.specs.Sets.{only, _∪_}
@@ -19,9 +19,9 @@ use Rattle.flow.specs.Rules.{broken, Numbered, firstBroken, lowestBroken}
 use Rattle.flow.specs.Records.{tagOf, callTag, valueOf, ruleIn, Reading, unreadable, aCall, aRule, frameTests, contentOf, readingBy, reading}
 use Rattle.flow.specs.Refusals.{inRange, ranges, fieldsFit, fieldTests, callTests, ruleTests}
 use Rattle.flow.specs.Verdicts.{Outcome, refuses, loads, allows, inhibits, modifies, diversion, mayDivert, breaksNone, stopped, verdictBy, verdict, outcomeOfCall, outcomeOfRule, outcomeOf, answerOf, withRule, stateAfter}
-use Rattle.flow.proofs.Bools.{and-l, and-r, choice}
+use Rattle.flow.proofs.Bools.{choice}
 use Rattle.flow.proofs.TableLaws.{AllNone, all-none, first-of-none, untrue}
-use Rattle.flow.proofs.Refused.{frame-byte, call-byte, rule-byte}
+use Rattle.flow.proofs.Places.{frame-byte, call-byte, rule-byte}
 use Rattle.flow.proofs.Accepted.{fits-process, fits-a}
 use Rattle.rules.proofs.LoadingLaws.{fit-substitute}
 use Rattle.decision.specs.Logs.{inBytes}

@@ -14,7 +14,7 @@ use Rattle.sets.proofs.Members.{union-has, only-has, none-has}
 use Rattle.flow.specs.Box.{containerOf, isTarget, Tables, feedersOf, feeds, descriptor, isLive, isOpen, isBound}
 use Rattle.flow.specs.Links.{linked, used, isFed}
 use Rattle.flow.specs.Calls.{Kind, start, openName, create, pipe, device, dup, close, read, write, truncate, mapRead, mapBoth, unmap, unlink, rename, link, fork, exit, label, kindNumber, Call, isKind, Flow, still, clear, withLive, withDescriptors, withNames, withLinks, tablesBy, flowBy}
-use Rattle.flow.specs.Refusals.{inRange, Ranges, ranges, fieldsFit, dead, taken, Need, openDescriptor, needOf, missing}
+use Rattle.flow.specs.Refusals.{inRange, Ranges, ranges, fieldsFit, dead, taken, openDescriptor, needOf, missing}
 use Rattle.flow.proofs.Bools.{or-elim, and-l, and-r, or-false-r, by, no-both}
 use Rattle.flow.proofs.TableLaws.{none-of, untrue}
 use Rattle.flow.proofs.Reach.{link-cases, link-in, link-out}

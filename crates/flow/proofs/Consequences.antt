@@ -6,22 +6,20 @@ use mathlib.Core.Path.{_≡_, refl, sym, ap, _∙_}
 use mathlib.Core.Bool.{Bool, true, false, _&&_}
 use mathlib.Core.List.{List, [], _∷_, _++_, map, append-nil, append-assoc}
 use mathlib.Core.Option.{Option, none, some}
-use lib.Dec.{eqb}
 use lib.ListN.{getD, length, take, length-append, List·getD-append}
 use lib.Seq.{getD-append-seam}
-use borrow.Author.Tests.{eq-eqb}
-use Rattle.flow.specs.Lists.{isIn, firstThat, isNone}
+use Rattle.flow.specs.Lists.{firstThat, isNone}
 use Rattle.flow.specs.Box.{Rule, State, holds}
 use Rattle.flow.specs.Calls.{Call, Change, change, after}
 use Rattle.flow.specs.Rules.{Numbered, lowestBroken}
-use Rattle.flow.specs.Records.{Reading, unreadable, aCall, aRule, reading, callRead, callOf, recordsOf}
-use Rattle.flow.specs.Refusals.{needOf, missing, callTests, testsOf, refusal}
+use Rattle.flow.specs.Records.{Reading, unreadable, aCall, aRule, reading, callOf, recordsOf}
+use Rattle.flow.specs.Refusals.{callTests, testsOf, refusal}
 use Rattle.flow.specs.Verdicts.{Outcome, refuses, loads, allows, inhibits, modifies, diversion, mayDivert, breaksNone, stopped, verdictBy, verdict, outcomeOfCall, outcomeOfRule, outcomeOf, outcome, refused, rule, allow, inhibit, answerOf, answer, stateAfter, next, answerAll, runLog}
 use Rattle.flow.specs.Contents.{Step, entry, memory, stepState, stateAt}
-use Rattle.flow.specs.Consequences.{RefusedExactly, places, placeIn, placeOf, NumberTells, PassedBreaksNone, VerdictExactly, NoGainAllowed, StoppedKeeps, OneAnswerEach, AnswersInOrder, LogIsSteps}
-use Rattle.flow.proofs.Bools.{choice, no-both}
+use Rattle.flow.specs.Consequences.{PassedBreaksNone, VerdictExactly, NoGainAllowed, StoppedKeeps, OneAnswerEach, AnswersInOrder, LogIsSteps}
+use Rattle.flow.proofs.Bools.{choice}
 use Rattle.flow.proofs.TableLaws.{none-is}
-use Rattle.flow.proofs.Refused.{refusal-read, refused-exactly, need-cases, call-lacks}
+use Rattle.flow.proofs.Refused.{read-call, refusal-read}
 use Rattle.flow.proofs.Judging.{none-broken}
 
 -- ---- no rule is broken after a change
@@ -68,12 +66,6 @@ unfolding PassedBreaksNone outcome Whole
 passed-breaks-none s bytes x = (λ e. rw e at (read-whole s (reading bytes)), λ n c e. rw e at (read-whole s (reading bytes)))
 
 -- ---- the verdict
-read-call : (x : Reading) (q : Call) → callRead x ≡ some q → x ≡ aCall (some q)
-unfolding callRead
-read-call (unreadable n) q e = absurd (let z : _≡_ {A = ℕ} 0 1 = cc in let y : ⊥ = omega arith in y)
-read-call (aCall o) q e = ap aCall e
-read-call (aRule r) q e = absurd (let z : _≡_ {A = ℕ} 0 1 = cc in let y : ⊥ = omega arith in y)
-
 -- a call that is not refused gets its verdict
 pub call-verdict : (s : State) (bytes : List ℕ) (q : Call) → refusal s bytes ≡ none → callOf bytes ≡ some q → outcome s bytes ≡ verdict s q
 unfolding callOf outcome outcomeOf outcomeOfCall testsOf
@@ -81,24 +73,6 @@ call-verdict s bytes q e f =
     let r : reading bytes ≡ aCall (some q) = read-call (reading bytes) q f in
     let h : firstThat (callTests (s .tables) (some q)) ≡ none = rw r at (sym (refusal-read s bytes) ∙ e) in
     rw (r, h) refl
-
--- ---- what a call lacked
-other : {n m : ℕ} {A B P : Type 0} → eqb n m ≡ false → n ≡ m → A → B → P
-other d e a b = no-both (eq-eqb _ _ e) d
-
-pub number-tells : NumberTells
-unfolding NumberTells callOf testsOf RefusedExactly placeOf places placeIn isIn
-number-tells s bytes q f = (
-  λ e. need-cases (s .tables) (q .process) (q .a) (needOf (q .kind)) 14 (lacks 14 refl e) (λ n y z. (y, z)) (other refl) (other refl) (other refl),
-  λ e. need-cases (s .tables) (q .process) (q .a) (needOf (q .kind)) 15 (lacks 15 refl e) (other refl) (λ n y z. (y, z)) (other refl) (other refl),
-  λ e. need-cases (s .tables) (q .process) (q .a) (needOf (q .kind)) 16 (lacks 16 refl e) (other refl) (other refl) (λ n y z. (y, z)) (other refl),
-  λ e. need-cases (s .tables) (q .process) (q .a) (needOf (q .kind)) 8 (lacks 8 refl e) (other refl) (other refl) (other refl) (λ n y z. (y, z)),
-)
-  where
-    lacks : (n : ℕ) → placeOf n ≡ placeOf 8 → answer s bytes ≡ refused n → missing (s .tables) (q .process) (q .a) (needOf (q .kind)) ≡ some n
-    lacks n at e =
-        let h : firstThat (testsOf s (reading bytes)) ≡ some n = sym (refusal-read s bytes) ∙ refused-exactly s bytes n .0 e in
-        call-lacks (s .tables) q n at (rw (read-call (reading bytes) q f) at h)
 
 inhibited : (x : Numbered) (d : Change) (b w : Bool) → (b && w) ≡ false
     → _≡_ {A = Outcome} (elim b as (λ z. Outcome) [ true ↦ elim w as (λ z. Outcome) [ true ↦ modifies (x .number) (x .rule .substitute) d | false ↦ inhibits (x .number) ] | false ↦ inhibits (x .number) ]) (inhibits (x .number))

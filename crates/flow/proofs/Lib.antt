@@ -2,6 +2,7 @@ pub mod Bools
 pub mod TableLaws
 pub mod KindLaws
 pub mod Refused
+pub mod Places
 pub mod Logs
 pub mod Judging
 pub mod Meets

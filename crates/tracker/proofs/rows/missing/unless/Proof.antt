@@ -1,5 +1,4 @@
 -- `unless` is 0 where it is there.
-use mathlib.Core.Path.{refl, sym, ap}
 use Rattle.tracker.specs.Rows.{numberUnless}
 use Rattle.tracker.proofs.rows.missing.unless.Statement.{statement}
 use Rattle.tracker.proofs.rows.missing.unless.Tie as tie
