@@ -167,6 +167,8 @@ def refused_cases(place: Place) -> Dict[str, LogCase]:
     process, descriptor, free = place.process, place.descriptor, place.freeing
     create = Call(Kind.CREATE, process, place.name, descriptor, place.used)
     dead_read, truncate = Call(Kind.READ, place.dead), Call(Kind.TRUNCATE, process, descriptor)
+    read = Call(Kind.READ, process, descriptor)
+    opening = Call(Kind.OPEN, process, place.name, descriptor)
     device = [*free, Call(Kind.DEVICE, process, descriptor, DEVICES[0])]
     listed = [
         ("header cut short", [], bytes([CALL_TAG, 0]), Refusal.CUT_SHORT),
@@ -176,7 +178,10 @@ def refused_cases(place: Place) -> Dict[str, LogCase]:
         ("call out of range", [], encode(Call(Kind.START, PROCESSES.stop)), Refusal.OUT_OF_RANGE),
         ("read of a dead process", place.dying, encode(dead_read), Refusal.DEAD_PROCESS),
         ("create, file in use", free, encode(create), Refusal.TAKEN),
-        ("unmap, no link", [], encode(Call(Kind.UNMAP, process, FREE)), Refusal.MISSING),
+        ("label, file not in use", free, encode(Call(Kind.LABEL, 0, FREE)), Refusal.NOT_IN_USE),
+        ("read of a closed descriptor", free, encode(read), Refusal.DESCRIPTOR_CLOSED),
+        ("open of an unbound name", free, encode(opening), Refusal.NAME_UNBOUND),
+        ("unmap, no link", [], encode(Call(Kind.UNMAP, process, FREE)), Refusal.NO_LINK),
         ("rule, items equal", [], encode(separate(1, 1)), Refusal.SAME_TWICE),
         ("truncate of a device", device, encode(truncate), Refusal.NO_FILE),
     ]

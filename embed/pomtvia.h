@@ -93,6 +93,8 @@ enum pomtvia_word {
     POMTVIA_REFUSED = 4  /* nothing changed; NUMBER is the refusal's */
 };
 
+/* The tests of a record are tried in the order of this list, and the first that applies is the answer: the earliest place decides, not the
+ * lowest number. 14 to 16 stand in 8's place (document 02, Paper 2). POMTVIA_SLICE_SHORT is for queries and pomtvia_run. */
 enum pomtvia_refusal {
     POMTVIA_CUT_SHORT = 1,
     POMTVIA_UNKNOWN_TAG = 2,
@@ -101,7 +103,10 @@ enum pomtvia_refusal {
     POMTVIA_OUT_OF_RANGE = 5,
     POMTVIA_DEAD_PROCESS = 6,
     POMTVIA_TAKEN = 7,
-    POMTVIA_MISSING = 8,
+    POMTVIA_NOT_IN_USE = 8,         /* a label's container */
+    POMTVIA_DESCRIPTOR_CLOSED = 14, /* field a of dup, close, read, write, truncate, map read, map both */
+    POMTVIA_NAME_UNBOUND = 15,      /* field a of open, unlink, rename, link */
+    POMTVIA_NO_LINK = 16,           /* between the process and the container to unmap */
     POMTVIA_SAME_TWICE = 9,
     POMTVIA_NO_FILE = 10,
     POMTVIA_RULES_FULL = 11,

@@ -5,8 +5,9 @@ from typing import Optional
 from model.choices import Choices
 from model.limits import ACTIONS, CALL_TAG, CONFINE_TAG, CONTAINERS, DEVICES, FORBID_TAG, ITEMS
 from model.limits import KINDS, PROCESSES, RULE_LIMIT, SEPARATE_TAG, VALUE_LENGTHS, Kind
-from model.proposals import Proposer
+from model.proposals import ROLES, Proposer
 from model.records import CALL_FIELDS, Call, Rule, encode, frame_bytes, separate
+from model.tracker import FIELD_RANGES, MISSING, NEEDED_THINGS, is_there
 
 # Tags beside the known ones, those of later papers first.
 OTHER_TAGS = [*range(0x14, 0x1C), 0x00, 0x01, 0x0F, 0x1C, 0x20, 0x7F, 0x80, 0x90, 0xFF]
@@ -24,6 +25,7 @@ class FaultMaker:
             (self.wrong_length, 2),
             (self.unknown_kind, 1),
             (self.flawed_call, 14),
+            (self.missing, 2),
             (self.taken_and_missing, 2),
             (self.same_twice, 2),
             (self.truncated_device, 2),
@@ -61,6 +63,21 @@ class FaultMaker:
         fields = [self.choices.pick(CALL_FIELDS) for _ in range(self.choices.pick([1, 1, 2, 3]))]
         return encode(self.proposer.flawed(call, fields, self.choices.chance(0.25)))
 
+    def missing(self) -> Optional[bytes]:
+        """A call that fits but for field a, which names something that is not there."""
+        thing = self.choices.pick(list(MISSING))
+        kind = self.choices.pick([k for k, needed in NEEDED_THINGS.items() if needed == thing])
+        callers = self.proposer.fitting(ROLES[kind][0], 0)
+        if not callers:
+            return None
+        call = Call(kind, self.choices.pick(callers))
+        numbers = FIELD_RANGES[kind][CALL_FIELDS.index("a")]
+        absent = [n for n in numbers if not is_there(self.proposer.state, call, thing, n)]
+        others = self.proposer.fitting(ROLES[kind][CALL_FIELDS.index("b")], call.process)
+        if not absent or not others:
+            return None
+        return encode(call._replace(a=self.choices.pick(absent), b=self.choices.near(others)))
+
     def taken_and_missing(self) -> Optional[bytes]:
         """A call whose field a is missing and whose field b is taken."""
         call = self.proposer.call(self.choices.pick([Kind.OPEN, Kind.DUP, Kind.LINK]))
@@ -76,16 +93,18 @@ class FaultMaker:
         if call is None:
             return None
         if self.choices.chance(0.4):
-            call = self.proposer.flawed(call, [self.choices.pick("ac")], False)
+            flaw = self.choices.pick(["process", "a", "c"])
+            call = self.proposer.flawed(call, [flaw], False)
         return encode(call._replace(b=call.a))
 
     def truncated_device(self) -> Optional[bytes]:
-        """A truncate of a device."""
+        """A truncate of a device, now and then with a field that is not used."""
         descriptors = self.proposer.state.descriptors
         found = sorted(key for key, container in descriptors.items() if container in DEVICES)
         if not found:
             return None
-        return encode(Call(Kind.TRUNCATE, *self.choices.pick(found)))
+        unused = self.choices.pick(EDGES) if self.choices.chance(0.2) else 0
+        return encode(Call(Kind.TRUNCATE, *self.choices.pick(found), unused))
 
     def flawed_rule(self) -> Optional[bytes]:
         """A rule with a wrong action, item or substitute, or several of them."""

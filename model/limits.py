@@ -1,6 +1,7 @@
-"""The numbers of document 01 in one place: limits, tags, kinds and refusals."""
+"""The numbers of documents 01 and 02 in one place: limits, tags, kinds and refusals."""
 
 from enum import IntEnum
+from typing import Collection, List
 
 
 class Number(IntEnum):
@@ -65,7 +66,11 @@ ACTIONS = range(0, 2)
 
 
 class Refusal(Number):
-    """Document 01, What a record gets: the first in this order that applies is the answer."""
+    """Document 01, What a record gets: the first in the order below that applies is the answer.
+
+    Document 02, Paper 2: the earliest place decides, not the lowest number. So the order here is
+    that of the tests. 14, 15 and 16 stand in 8's place, and no record meets two of these four.
+    """
 
     CUT_SHORT = 1
     UNKNOWN_TAG = 2
@@ -74,7 +79,10 @@ class Refusal(Number):
     OUT_OF_RANGE = 5
     DEAD_PROCESS = 6
     TAKEN = 7
-    MISSING = 8
+    NOT_IN_USE = 8  # a container to label
+    DESCRIPTOR_CLOSED = 14
+    NAME_UNBOUND = 15
+    NO_LINK = 16  # to unmap
     SAME_TWICE = 9
     NO_FILE = 10
     RULES_FULL = 11
@@ -84,6 +92,11 @@ class Refusal(Number):
 
 # Those that a record can get; the last is for a query.
 RECORD_REFUSALS = tuple(Refusal)[:-1]
+
+
+def by_place(numbers: Collection[Refusal]) -> List[Refusal]:
+    """Refusals in the order of their tests."""
+    return [refusal for refusal in Refusal if refusal in numbers]
 
 
 def process_container(process: int) -> int:

@@ -17,7 +17,8 @@ RAW = "raw"
 EMPTY_SET = "none"
 SHOWN = 60  # characters of a word in a message
 
-# Document 01, the table of refusals: the bench's words.
+# The bench's words, in the order of the tests: document 01, the table of refusals; document 02,
+# Paper 2, for those in 8's place.
 REFUSAL_WORDS = {
     Refusal.CUT_SHORT: "cut short",
     Refusal.UNKNOWN_TAG: "unknown tag",
@@ -26,7 +27,10 @@ REFUSAL_WORDS = {
     Refusal.OUT_OF_RANGE: "out of range",
     Refusal.DEAD_PROCESS: "dead process",
     Refusal.TAKEN: "taken",
-    Refusal.MISSING: "missing",
+    Refusal.NOT_IN_USE: "not in use",
+    Refusal.DESCRIPTOR_CLOSED: "descriptor closed",
+    Refusal.NAME_UNBOUND: "name unbound",
+    Refusal.NO_LINK: "no link to unmap",
     Refusal.SAME_TWICE: "same twice",
     Refusal.NO_FILE: "no file",
     Refusal.RULES_FULL: "rules full",

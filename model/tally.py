@@ -1,9 +1,10 @@
 """Counts of what happens in logs."""
 
 from collections import Counter
+from itertools import combinations
 from typing import List, Set
 
-from model.limits import CALL_TAG, DIVERT_ACTION, FILES, Kind
+from model.limits import CALL_TAG, DIVERT_ACTION, FILES, Kind, by_place
 from model.records import Call, decode_call, decode_rule, read_frame
 from model.tracker import Answer, State, Tracker, broken_rules, divert_obstacle, frame_refusals
 from model.tracker import work_out
@@ -16,7 +17,7 @@ class Tally:
         self.records = 0
         self.words: Counter = Counter()
         self.refusals: Counter = Counter()
-        self.refused_together: Counter = Counter()  # pairs of refusals of one record
+        self.refused_together: Counter = Counter()  # pairs of refusals of one record, by place
         self.done_kinds: Counter = Counter()
         self.rules: Counter = Counter()  # tag and action
         self.events: Counter = Counter()
@@ -50,11 +51,8 @@ class Tally:
         if answer.word != "refused":
             return
         self.refusals[answer.numbers[0]] += 1
-        applying = sorted(frame_refusals(before, read_frame(data)))
-        for first in applying:
-            for second in applying:
-                if first < second:
-                    self.refused_together[first, second] += 1
+        applying = by_place(frame_refusals(before, read_frame(data)))
+        self.refused_together.update(combinations(applying, 2))
 
     def _count_inhibited(self, call: Call, answer: Answer, before: State) -> None:
         rule = before.rules[answer.numbers[0]]

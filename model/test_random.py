@@ -237,15 +237,29 @@ def batch(options: Options, mix: str) -> Tally:
     return tally
 
 
+# The refusals that can apply at once, by place; no others do.
 PAIRS = [
     (Refusal.UNKNOWN_KIND, Refusal.OUT_OF_RANGE),
+    (Refusal.UNKNOWN_KIND, Refusal.SAME_TWICE),
+    (Refusal.UNKNOWN_KIND, Refusal.RULES_FULL),
+    (Refusal.UNKNOWN_KIND, Refusal.BROKEN_ALREADY),
     (Refusal.OUT_OF_RANGE, Refusal.DEAD_PROCESS),
     (Refusal.OUT_OF_RANGE, Refusal.TAKEN),
-    (Refusal.OUT_OF_RANGE, Refusal.MISSING),
+    (Refusal.OUT_OF_RANGE, Refusal.NOT_IN_USE),
+    (Refusal.OUT_OF_RANGE, Refusal.DESCRIPTOR_CLOSED),
+    (Refusal.OUT_OF_RANGE, Refusal.NAME_UNBOUND),
+    (Refusal.OUT_OF_RANGE, Refusal.NO_LINK),
     (Refusal.OUT_OF_RANGE, Refusal.SAME_TWICE),
+    (Refusal.OUT_OF_RANGE, Refusal.NO_FILE),
+    (Refusal.OUT_OF_RANGE, Refusal.RULES_FULL),
+    (Refusal.OUT_OF_RANGE, Refusal.BROKEN_ALREADY),
     (Refusal.DEAD_PROCESS, Refusal.TAKEN),
-    (Refusal.DEAD_PROCESS, Refusal.MISSING),
-    (Refusal.TAKEN, Refusal.MISSING),
+    (Refusal.DEAD_PROCESS, Refusal.DESCRIPTOR_CLOSED),
+    (Refusal.DEAD_PROCESS, Refusal.NAME_UNBOUND),
+    (Refusal.DEAD_PROCESS, Refusal.NO_LINK),
+    (Refusal.DEAD_PROCESS, Refusal.SAME_TWICE),
+    (Refusal.TAKEN, Refusal.DESCRIPTOR_CLOSED),
+    (Refusal.TAKEN, Refusal.NAME_UNBOUND),
     (Refusal.TAKEN, Refusal.SAME_TWICE),
     (Refusal.SAME_TWICE, Refusal.RULES_FULL),
     (Refusal.SAME_TWICE, Refusal.BROKEN_ALREADY),
@@ -277,6 +291,8 @@ def check_tallies(checks: Checks, tallies: Dict[str, Tally]) -> None:
     for pair in PAIRS:
         count = sum(tally.refused_together[pair] for tally in tallies.values())
         checks.true(f"generated: refusals {pair} at once", count > 0)
+    others = {pair for tally in tallies.values() for pair in tally.refused_together} - {*PAIRS}
+    checks.equal("generated: other refusals at once", others, set())
     for kind in KINDS:
         checks.true(f"generated: kind {kind} done", tallies["deep"].done_kinds[kind] > 0)
     for tag in (FORBID_TAG, SEPARATE_TAG, CONFINE_TAG):

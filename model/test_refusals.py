@@ -1,12 +1,13 @@
 """Refusals, ranges, framing and queries."""
 
+from itertools import product
 from typing import List, Set, Tuple, Union
 
 from model.checks import Checks, Options
 from model.limits import ACTIONS, CALL_TAG, CONTAINERS, FORBID_TAG, ITEMS, KINDS, PROCESSES, Kind
 from model.limits import Refusal
 from model.records import Call, Rule, confine, encode, forbid, frame_bytes, read_frame, separate
-from model.test_runs import allows
+from model.test_runs import RUN_G, allows, more
 from model.tracker import CONTAINER, DESCRIPTOR, LINK, NAME, PROCESS, Fact, Tracker, frame_refusals
 from model.tracker import record_facts, refusals, refused
 
@@ -22,6 +23,10 @@ SETUP = [
     Call(Kind.LABEL, 0, 2, 16),
 ]
 FULL = SETUP + [forbid(40, [])] * 32
+
+# The order of the tests. Document 02, Paper 2: 14 to 16 are in 8's place, each for its kinds.
+ORDER = [1, 2, 3, 4, 5, 6, 7, 8, 14, 15, 16, 9, 10, 11, 12, 13]
+KINDS_OF_PLACE = {8: [19], 14: [6, 7, 8, 9, 10, 11, 12], 15: [2, 14, 15, 16], 16: [13]}
 
 Case = Tuple[Union[Call, Rule], Set[Refusal]]
 
@@ -50,25 +55,25 @@ CALL_CASES: List[Case] = [
     (Call(Kind.DUP, 0, 0, 1), {Refusal.TAKEN}),
     (Call(Kind.DUP, 0, 0, 0), {Refusal.TAKEN}),
     (Call(Kind.LINK, 0, 5, 5), {Refusal.TAKEN}),
-    (Call(Kind.OPEN, 0, 6, 2), {Refusal.MISSING}),
-    (Call(Kind.DUP, 0, 3, 2), {Refusal.MISSING}),
-    (Call(Kind.DUP, 0, 3, 3), {Refusal.MISSING}),
-    (Call(Kind.CLOSE, 1, 0), {Refusal.MISSING}),
-    (Call(Kind.READ, 1, 0), {Refusal.MISSING}),
-    (Call(Kind.WRITE, 1, 0), {Refusal.MISSING}),
-    (Call(Kind.TRUNCATE, 1, 0), {Refusal.MISSING}),
-    (Call(Kind.MAP_READ, 1, 0), {Refusal.MISSING}),
-    (Call(Kind.MAP_BOTH, 1, 0), {Refusal.MISSING}),
-    (Call(Kind.UNMAP, 0, 24), {Refusal.MISSING}),
-    (Call(Kind.UNMAP, 0, 8), {Refusal.MISSING}),
-    (Call(Kind.UNMAP, 0, 23), {Refusal.MISSING}),
-    (Call(Kind.UNLINK, 0, 6), {Refusal.MISSING}),
-    (Call(Kind.RENAME, 0, 6, 5), {Refusal.MISSING}),
-    (Call(Kind.RENAME, 0, 6, 6), {Refusal.MISSING}),
-    (Call(Kind.LINK, 0, 6, 7), {Refusal.MISSING}),
-    (Call(Kind.LINK, 0, 6, 6), {Refusal.MISSING}),
-    (Call(Kind.LABEL, 0, 25, 1), {Refusal.MISSING}),
-    (Call(Kind.LABEL, 0, 10, 1), {Refusal.MISSING}),
+    (Call(Kind.OPEN, 0, 6, 2), {Refusal.NAME_UNBOUND}),
+    (Call(Kind.DUP, 0, 3, 2), {Refusal.DESCRIPTOR_CLOSED}),
+    (Call(Kind.DUP, 0, 3, 3), {Refusal.DESCRIPTOR_CLOSED}),
+    (Call(Kind.CLOSE, 1, 0), {Refusal.DESCRIPTOR_CLOSED}),
+    (Call(Kind.READ, 1, 0), {Refusal.DESCRIPTOR_CLOSED}),
+    (Call(Kind.WRITE, 1, 0), {Refusal.DESCRIPTOR_CLOSED}),
+    (Call(Kind.TRUNCATE, 1, 0), {Refusal.DESCRIPTOR_CLOSED}),
+    (Call(Kind.MAP_READ, 1, 0), {Refusal.DESCRIPTOR_CLOSED}),
+    (Call(Kind.MAP_BOTH, 1, 0), {Refusal.DESCRIPTOR_CLOSED}),
+    (Call(Kind.UNMAP, 0, 24), {Refusal.NO_LINK}),
+    (Call(Kind.UNMAP, 0, 8), {Refusal.NO_LINK}),
+    (Call(Kind.UNMAP, 0, 23), {Refusal.NO_LINK}),
+    (Call(Kind.UNLINK, 0, 6), {Refusal.NAME_UNBOUND}),
+    (Call(Kind.RENAME, 0, 6, 5), {Refusal.NAME_UNBOUND}),
+    (Call(Kind.RENAME, 0, 6, 6), {Refusal.NAME_UNBOUND}),
+    (Call(Kind.LINK, 0, 6, 7), {Refusal.NAME_UNBOUND}),
+    (Call(Kind.LINK, 0, 6, 6), {Refusal.NAME_UNBOUND}),
+    (Call(Kind.LABEL, 0, 25, 1), {Refusal.NOT_IN_USE}),
+    (Call(Kind.LABEL, 0, 10, 1), {Refusal.NOT_IN_USE}),
     (Call(Kind.PIPE, 0, 3, 3, 25), {Refusal.SAME_TWICE}),
     (Call(Kind.TRUNCATE, 0, 1), {Refusal.NO_FILE}),
 ]
@@ -76,18 +81,23 @@ CALL_CASES: List[Case] = [
 SEVERAL_CASES: List[Case] = [
     (Call(Kind.DEVICE, 2, 0, 8), {Refusal.OUT_OF_RANGE, Refusal.DEAD_PROCESS}),
     (Call(Kind.OPEN, 0, 5, 0, 1), {Refusal.OUT_OF_RANGE, Refusal.TAKEN}),
-    (Call(Kind.CLOSE, 0, 2, 1), {Refusal.OUT_OF_RANGE, Refusal.MISSING}),
+    (Call(Kind.CLOSE, 0, 2, 1), {Refusal.OUT_OF_RANGE, Refusal.DESCRIPTOR_CLOSED}),
+    (Call(Kind.UNLINK, 0, 128), {Refusal.OUT_OF_RANGE, Refusal.NAME_UNBOUND}),
+    (Call(Kind.UNMAP, 0, 24, 1), {Refusal.OUT_OF_RANGE, Refusal.NO_LINK}),
+    (Call(Kind.LABEL, 1, 25, 1), {Refusal.OUT_OF_RANGE, Refusal.NOT_IN_USE}),
     (Call(Kind.PIPE, 0, 32, 32, 25), {Refusal.OUT_OF_RANGE, Refusal.SAME_TWICE}),
     (Call(Kind.TRUNCATE, 0, 1, 0, 255), {Refusal.OUT_OF_RANGE, Refusal.NO_FILE}),
     (Call(Kind.CREATE, 2, 5, 0, 25), {Refusal.DEAD_PROCESS, Refusal.TAKEN}),
-    (Call(Kind.READ, 2, 0), {Refusal.DEAD_PROCESS, Refusal.MISSING}),
+    (Call(Kind.READ, 2, 0), {Refusal.DEAD_PROCESS, Refusal.DESCRIPTOR_CLOSED}),
+    (Call(Kind.UNLINK, 2, 6), {Refusal.DEAD_PROCESS, Refusal.NAME_UNBOUND}),
+    (Call(Kind.UNMAP, 2, 24), {Refusal.DEAD_PROCESS, Refusal.NO_LINK}),
     (Call(Kind.PIPE, 2, 0, 0, 25), {Refusal.DEAD_PROCESS, Refusal.SAME_TWICE}),
-    (Call(Kind.OPEN, 0, 6, 0), {Refusal.TAKEN, Refusal.MISSING}),
-    (Call(Kind.DUP, 0, 3, 0), {Refusal.TAKEN, Refusal.MISSING}),
-    (Call(Kind.LINK, 0, 6, 5), {Refusal.TAKEN, Refusal.MISSING}),
+    (Call(Kind.OPEN, 0, 6, 0), {Refusal.TAKEN, Refusal.NAME_UNBOUND}),
+    (Call(Kind.DUP, 0, 3, 0), {Refusal.TAKEN, Refusal.DESCRIPTOR_CLOSED}),
+    (Call(Kind.LINK, 0, 6, 5), {Refusal.TAKEN, Refusal.NAME_UNBOUND}),
     (Call(Kind.PIPE, 0, 0, 0, 25), {Refusal.TAKEN, Refusal.SAME_TWICE}),
     (Call(Kind.PIPE, 0, 3, 3, 24), {Refusal.TAKEN, Refusal.SAME_TWICE}),
-    (Call(Kind.LINK, 2, 6, 5), {Refusal.DEAD_PROCESS, Refusal.TAKEN, Refusal.MISSING}),
+    (Call(Kind.LINK, 2, 6, 5), {Refusal.DEAD_PROCESS, Refusal.TAKEN, Refusal.NAME_UNBOUND}),
     (forbid(99, [], 7), {Refusal.UNKNOWN_KIND, Refusal.OUT_OF_RANGE}),
     (separate(3, 3, 2), {Refusal.UNKNOWN_KIND, Refusal.SAME_TWICE}),
     (forbid(1, [24], 2), {Refusal.UNKNOWN_KIND, Refusal.BROKEN_ALREADY}),
@@ -133,7 +143,8 @@ FULL_CASES: List[Case] = [
 
 def test_numbers(checks: Checks, options: Options) -> None:
     checks.equal("kinds: numbers", [int(kind) for kind in Kind], list(range(1, 20)))
-    checks.equal("refusals: numbers", [int(refusal) for refusal in Refusal], list(range(1, 14)))
+    checks.equal("refusals: the order of places", [int(refusal) for refusal in Refusal], ORDER)
+    checks.equal("refusals: numbers", sorted(ORDER), list(range(1, 17)))
     said = [str(Kind.READ), f"{Kind.READ}", f"{Kind.READ:>3}", str(refused(Refusal.TAKEN))]
     checks.equal("numbers as they are written", said, ["8", "8", "  8", "refused 7"])
 
@@ -147,7 +158,8 @@ def check_cases(checks: Checks, setup: list, cases: List[Case]) -> None:
         applying = frame_refusals(tracker.state, read_frame(data))
         checks.equal(f"{record}: refusals that apply", applying, expected)
         answer, _ = tracker.answer_record(data)
-        checks.equal(f"{record}: answer", answer, refused(min(expected)))
+        first = min(expected, key=ORDER.index)
+        checks.equal(f"{record}: answer", answer, refused(first))
         checks.equal(f"{record}: state", tracker.state, before)
 
 
@@ -159,10 +171,10 @@ FACT_CASES: List[Tuple[Union[Call, Rule], Fact]] = [
     (Call(Kind.CREATE, 0, 6, 0, 25), Fact(Refusal.TAKEN, "b", DESCRIPTOR, containers=(24,))),
     (Call(Kind.CREATE, 0, 5, 2, 25), Fact(Refusal.TAKEN, "a", NAME, containers=(24,))),
     (Call(Kind.CREATE, 0, 6, 2, 24), Fact(Refusal.TAKEN, "c", CONTAINER)),
-    (Call(Kind.READ, 1, 0), Fact(Refusal.MISSING, "a", DESCRIPTOR)),
-    (Call(Kind.UNLINK, 0, 6), Fact(Refusal.MISSING, "a", NAME)),
-    (Call(Kind.UNMAP, 0, 24), Fact(Refusal.MISSING, "a", LINK)),
-    (Call(Kind.LABEL, 0, 25, 1), Fact(Refusal.MISSING, "a", CONTAINER)),
+    (Call(Kind.READ, 1, 0), Fact(Refusal.DESCRIPTOR_CLOSED, "a", DESCRIPTOR)),
+    (Call(Kind.UNLINK, 0, 6), Fact(Refusal.NAME_UNBOUND, "a", NAME)),
+    (Call(Kind.UNMAP, 0, 24), Fact(Refusal.NO_LINK, "a", LINK)),
+    (Call(Kind.LABEL, 0, 25, 1), Fact(Refusal.NOT_IN_USE, "a", CONTAINER)),
     (Call(Kind.PIPE, 0, 3, 3, 25), Fact(Refusal.SAME_TWICE, "b", DESCRIPTOR)),
     (Call(Kind.TRUNCATE, 0, 1), Fact(Refusal.NO_FILE, "a", DESCRIPTOR, containers=(1,))),
     (forbid(1, [], 2), Fact(Refusal.UNKNOWN_KIND, "action", allowed=ACTIONS)),
@@ -188,8 +200,59 @@ def test_rules_refused(checks: Checks, options: Options) -> None:
     check_cases(checks, SETUP, RULE_CASES)
 
 
-def test_lowest_refusal(checks: Checks, options: Options) -> None:
+def test_earliest_place(checks: Checks, options: Options) -> None:
     check_cases(checks, SETUP, SEVERAL_CASES)
+
+
+# Document 02, Paper 2, on the state of SETUP.
+PLACE_CASES: List[Tuple[str, Call, int]] = [
+    ("dup of a closed descriptor, onto an open one", Call(Kind.DUP, 0, 3, 0), 7),
+    ("dup of a closed descriptor, onto a closed one", Call(Kind.DUP, 0, 3, 2), 14),
+    ("dup of a closed descriptor onto itself", Call(Kind.DUP, 0, 3, 3), 14),
+    ("truncate of a closed descriptor", Call(Kind.TRUNCATE, 0, 3), 14),
+    ("truncate of a device", Call(Kind.TRUNCATE, 0, 1), 10),
+    ("read of a descriptor that another process has open", Call(Kind.READ, 1, 0), 14),
+    ("read of a dead process", Call(Kind.READ, 2, 0), 6),
+    ("open of an unbound name, as an open descriptor", Call(Kind.OPEN, 0, 6, 0), 7),
+    ("open of an unbound name, as a closed one", Call(Kind.OPEN, 0, 6, 2), 15),
+    ("link of an unbound name, to a bound one", Call(Kind.LINK, 0, 6, 5), 7),
+    ("link of an unbound name, to an unbound one", Call(Kind.LINK, 0, 6, 7), 15),
+    ("rename of an unbound name, to a bound one", Call(Kind.RENAME, 0, 6, 5), 15),
+    ("unmap of a file in use", Call(Kind.UNMAP, 0, 24), 16),
+    ("unmap of a file not in use", Call(Kind.UNMAP, 0, 25), 16),
+    ("unmap with a field that is not used", Call(Kind.UNMAP, 0, 24, 1), 5),
+    ("label of a file not in use", Call(Kind.LABEL, 0, 25, 1), 8),
+    ("label of a dead process", Call(Kind.LABEL, 0, 10, 1), 8),
+    ("pipe of one descriptor twice, closed", Call(Kind.PIPE, 0, 3, 3, 25), 9),
+    ("pipe of one descriptor twice, open", Call(Kind.PIPE, 0, 0, 0, 25), 7),
+]
+
+
+def test_which_was_missing(checks: Checks, options: Options) -> None:
+    for name, call, number in PLACE_CASES:
+        checks.equal(name, more(allows(SETUP), [call]), [f"refused {number}"])
+    live = allows([Call(Kind.START, 0)])
+    for number, kinds in KINDS_OF_PLACE.items():
+        for kind in kinds:
+            answers = more(live, [Call(kind, 0, 24)])
+            checks.equal(f"kind {kind}: what was missing", answers, [f"refused {number}"])
+
+
+def test_one_of_a_place(checks: Checks, options: Options) -> None:
+    """No call gets two of 8, 14, 15 and 16, and each number comes for its kinds alone."""
+    near = (0, 1, 2, 3, 5, 6, 8, 10, 23, 24, 25, 31, 32, 63, 64, 127, 128, 255)
+    rest = (0, 1, 5, 24, 25, 255)
+    for name, records in (("fresh", []), ("setup", SETUP), ("run G", RUN_G)):
+        state = allows(records).state
+        found: Set[int] = set()
+        wrong = []
+        for fields in product(KINDS, (0, 1, 2, 16), near, rest, rest[:-1]):
+            numbers = refusals(record_facts(state, Call(*fields))) & KINDS_OF_PLACE.keys()
+            found |= numbers
+            if len(numbers) > 1 or any(fields[0] not in KINDS_OF_PLACE[n] for n in numbers):
+                wrong.append((fields, numbers))
+        checks.equal(f"one of a place, {name}", wrong, [])
+        checks.equal(f"one of a place, {name}: each occurs", found, set(KINDS_OF_PLACE))
 
 
 def test_rules_full(checks: Checks, options: Options) -> None:

@@ -1,4 +1,7 @@
-"""The runs of document 01, those of Paper 1 of document 02, and the effects of single calls."""
+"""The runs of document 01, those of Paper 1 of document 02, and the effects of single calls.
+
+Run B is that of Paper 2: its last line but one is `refused 14`.
+"""
 
 from typing import Dict, List, Set, Tuple, Union
 
@@ -13,7 +16,7 @@ RUN_B_INPUT = bytes.fromhex(
     "10 0005 0800000000 10 0005 0900010000 10 0005 0900020000 10 00"
 )
 RUN_B_OUTPUT = (
-    "allow\nallow\nallow\nrule 0\nallow\nallow\nmodify 0 3\nrefused 8\nrefused 1\n"
+    "allow\nallow\nallow\nrule 0\nallow\nallow\nmodify 0 3\nrefused 14\nrefused 1\n"
 )
 
 Records = List[Union[Call, Rule]]

@@ -1,5 +1,7 @@
 """The tracker of document 01 as plain sets, dictionaries and graph search.
 
+Papers 1 and 2 of document 02 are in it.
+
 A State is never changed once it is in a Tracker: each accepted record puts a
 new State in its place, so a caller may keep an earlier one.
 """
@@ -10,7 +12,7 @@ from typing import Optional, Set, Tuple, Union
 
 from model.limits import ACTIONS, CONTAINERS, DESCRIPTORS, DEVICES, DIVERT_ACTION, FILES, FORBID_TAG
 from model.limits import ITEMS, KINDS, NAMES, PROCESSES, RULE_LIMIT, SEPARATE_TAG, VALUE_LENGTHS
-from model.limits import Kind, Refusal, process_container
+from model.limits import Kind, Refusal, by_place, process_container
 from model.records import CALL_FIELDS, RULE_ITEMS, Call, Frame, Rule, decode, read_frame
 
 NO_ITEMS: FrozenSet[int] = frozenset()
@@ -295,7 +297,7 @@ NEW_THINGS: Dict[int, Dict[str, str]] = {
     Kind.FORK: {"a": PROCESS},
 }
 
-# Row 8, missing: the kinds whose field a must name something present, and what it names.
+# The place of 8: the kinds whose field a must name something that is there, and what it names.
 NEEDED_THINGS: Dict[int, str] = {
     Kind.OPEN: NAME,
     Kind.DUP: DESCRIPTOR,
@@ -310,6 +312,14 @@ NEEDED_THINGS: Dict[int, str] = {
     Kind.RENAME: NAME,
     Kind.LINK: NAME,
     Kind.LABEL: CONTAINER,
+}
+
+# The number tells what was not there: document 02, Paper 2.
+MISSING: Dict[str, Refusal] = {
+    DESCRIPTOR: Refusal.DESCRIPTOR_CLOSED,
+    NAME: Refusal.NAME_UNBOUND,
+    LINK: Refusal.NO_LINK,
+    CONTAINER: Refusal.NOT_IN_USE,
 }
 
 # Row 6, dead process: the kinds without a calling process.
@@ -364,7 +374,7 @@ def call_facts(state: State, call: Call) -> Iterator[Fact]:
 
 
 def state_facts(state: State, call: Call) -> Iterator[Fact]:
-    """The tests of rows 6 to 8 that a call fails."""
+    """The tests of rows 6 and 7 and of 8's place that a call fails."""
     if call.kind not in NEEDS_NO_CALLER and call.process not in state.live:
         yield Fact(Refusal.DEAD_PROCESS, "process", PROCESS)
     for field, thing in NEW_THINGS.get(call.kind, {}).items():
@@ -374,7 +384,7 @@ def state_facts(state: State, call: Call) -> Iterator[Fact]:
             yield Fact(Refusal.TAKEN, field, thing, containers=target)
     needed = NEEDED_THINGS.get(call.kind)
     if needed and not is_there(state, call, needed, call.a):
-        yield Fact(Refusal.MISSING, "a", needed)
+        yield Fact(MISSING[needed], "a", needed)
 
 
 def substitutes(action: int) -> Set[int]:
@@ -429,8 +439,8 @@ def frame_refusals(state: State, frame: Optional[Frame]) -> Set[Refusal]:
 
 
 def first_refusal(numbers: Set[Refusal]) -> Refusal:
-    """The one number that is answered when several apply."""
-    return next(number for number in Refusal if number in numbers)
+    """The one number that is answered when several apply: that of the earliest place."""
+    return by_place(numbers)[0]
 
 
 # Rules and verdicts: document 01, What a record gets.

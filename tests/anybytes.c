@@ -1,6 +1,7 @@
 /* Monitors of any bytes, by what pomtvia.h promises of them: every function ends and stays within its memory, the ways of a call refuse the
- * same, a refused or inhibited call leaves every field as it was, and the two queries agree. The argument is how many monitors are tried.
- * Writes how many calls were refused, inhibited and passed; status 1 with a line where a promise is broken. */
+ * same and with a number that fits the kind, a refused or inhibited call leaves every field as it was, and the two queries agree. The
+ * argument is how many monitors are tried. Writes how many calls were refused, inhibited and passed, and how many got each number of a
+ * refusal; status 1 with a line where a promise is broken. */
 #include <stdio.h>
 #include <stdlib.h>
 #include <string.h>
@@ -22,6 +23,7 @@ struct lent {
 
 static uint64_t seed = 88172645463325252u;
 static unsigned long refused, inhibited, passed;
+static unsigned long numbers[256]; /* calls refused with each number */
 
 static uint64_t any(void)
 {
@@ -77,6 +79,23 @@ static int is_refused(uint32_t answer)
     return POMTVIA_WORD(answer) == POMTVIA_REFUSED;
 }
 
+/* Whether a call of a kind can be refused with a number: the number tells what was missing. */
+static int can_get(unsigned kind, unsigned number)
+{
+    switch (number) {
+    case POMTVIA_NOT_IN_USE:
+        return kind == POMTVIA_LABEL;
+    case POMTVIA_DESCRIPTOR_CLOSED:
+        return kind >= POMTVIA_DUP && kind <= POMTVIA_MAP_BOTH;
+    case POMTVIA_NAME_UNBOUND:
+        return kind == POMTVIA_OPEN || (kind >= POMTVIA_UNLINK && kind <= POMTVIA_LINK);
+    case POMTVIA_NO_LINK:
+        return kind == POMTVIA_UNMAP;
+    default:
+        return number >= POMTVIA_UNKNOWN_KIND && number <= POMTVIA_NO_FILE;
+    }
+}
+
 /* One call in each way. */
 static void check_call(struct lent *l, const struct pomtvia_monitor *was)
 {
@@ -102,6 +121,9 @@ static void check_call(struct lent *l, const struct pomtvia_monitor *was)
         must(!is_refused(answers[0]) || answers[way] == answers[0], "a call is refused alike");
         must(is_refused(answers[0]) == is_refused(answers[way]), "a call is refused in every way");
         must(guarded(l), "a call stays within the monitor");
+        unsigned number = POMTVIA_NUMBER(answers[way]);
+        must(word != POMTVIA_REFUSED || can_get(r[3], number), "a call is refused with a number that fits its kind");
+        numbers[number] += word == POMTVIA_REFUSED;
         refused += word == POMTVIA_REFUSED;
         inhibited += word == POMTVIA_INHIBIT;
         passed += word == POMTVIA_ALLOW || word == POMTVIA_MODIFY;
@@ -217,6 +239,9 @@ int main(int argc, char **argv)
         }
     }
     printf("refused %lu inhibited %lu passed %lu\n", refused, inhibited, passed);
+    for (unsigned number = 0; number < 256; number++)
+        if (numbers[number])
+            printf("with %u: %lu\n", number, numbers[number]);
     free(l);
     free(was);
     return 0;

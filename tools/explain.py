@@ -5,8 +5,8 @@ from typing import Dict, List, NamedTuple, Optional, Tuple
 from model.limits import RULE_LIMIT, Kind, Refusal
 from model.logtext import REFUSAL_WORDS, record_text
 from model.records import Call, Rule, encode
-from model.tracker import ALLOW, Answer, broken_places, broken_rules, divert, divert_obstacle, judge
-from model.tracker import load_rule
+from model.tracker import ALLOW, CONTAINER, DESCRIPTOR, LINK, MISSING, NAME, Answer, broken_places
+from model.tracker import broken_rules, divert, divert_obstacle, judge, load_rule
 from tools.changes import Changes, changes_between
 from tools.names import NO_OWN, Own
 from tools.phrases import OBSTACLES, answer_meaning, hop_text, rule_text, sentence
@@ -117,6 +117,28 @@ def obstacle_lines(words: Words, step: Step) -> List[Line]:
 
 # Refusals.
 
+# What became of a thing that is missing: a record ended it, or none ever made it.
+PASTS: Dict[str, Tuple[str, str]] = {
+    DESCRIPTOR: ("record {} closed it", "no earlier record opened it"),
+    NAME: ("record {} unbound it", "no earlier record bound it"),
+    LINK: ("record {} ended the link", "no earlier record made one"),
+    CONTAINER: ("record {} ended its use", "no earlier record brought it into use"),
+}
+
+
+def past_text(step: Step, thing: str) -> str:
+    """Since when the thing that field a of a call names is missing."""
+    call = step.record
+    keys = {
+        DESCRIPTOR: [(call.process, call.a)],
+        NAME: [(call.a,)],
+        LINK: [(call.caller, call.a), (call.a, call.caller)],
+        CONTAINER: [(call.a,)],
+    }
+    ended, never = PASTS[thing]
+    records = [step.before.ended.get((thing, *key), 0) for key in keys[thing]]
+    return ended.format(max(records)) if any(records) else never
+
 
 def mended_lines(step: Step, reason: Reason) -> List[Line]:
     """A record that does what was meant, with what it would get; none if it would be stopped."""
@@ -143,6 +165,8 @@ def refusal_lines(words: Words, step: Step) -> List[Line]:
         failed = "; ".join(map(failed_text, reason.failed))
         word = REFUSAL_WORDS[reason.number]
         lines.append((0, f"with that mended, refused with {reason.number} ({word}): {failed}"))
+    if number in MISSING.values():
+        lines.append((0, past_text(step, first.facts[0].thing)))
     if number == Refusal.BROKEN_ALREADY:
         place = first.facts[0].containers[0]
         lines += place_lines(words, step.before, step.record, place, step.number)

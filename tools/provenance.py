@@ -5,14 +5,16 @@ the item and has the giver's own Origin of that moment, so the way of an item is
 a chain that ends at a label and that later records cannot change.
 """
 
-from typing import Any, Dict, Iterator, List, NamedTuple, Optional, Tuple
+from typing import Any, Dict, Iterator, List, NamedTuple, Optional, Set, Tuple
 
 from model.contents import gifts
 from model.limits import VALUE_LENGTHS, Kind, process_container
 from model.records import Call, decode, read_frame
-from model.tracker import ALLOW, Answer, State, Tracker, work_out
+from model.tracker import ALLOW, CONTAINER, DESCRIPTOR, LINK, NAME, Answer, State, Tracker
+from model.tracker import work_out
 
 Link = Tuple[int, int]
+Thing = Tuple[Any, ...]  # that a call can find missing: the model's word for it and its numbers
 MADE = {Kind.CREATE: "file", Kind.PIPE: "pipe"}  # what the new container of a call is
 DONE = ("allow", "modify")  # answers to a call that changes the state
 BREAKING = ("inhibit", "modify")  # answers that name a rule which would be broken
@@ -41,6 +43,7 @@ class Moment(NamedTuple):
     began: Dict[Link, int]  # the record in which each link began
     sorts: Dict[int, str]  # which containers were last made as files and which as pipes
     loaded: Tuple[int, ...]  # the record of each rule
+    ended: Dict[Thing, int]  # the last record in which each thing ended
 
 
 class Step(NamedTuple):
@@ -57,7 +60,7 @@ class Step(NamedTuple):
 
 def fresh() -> Moment:
     """The moment before the first record."""
-    return Moment(State(), {}, {}, {}, ())
+    return Moment(State(), {}, {}, {}, (), {})
 
 
 def record_of(data: bytes) -> Any:
@@ -110,6 +113,16 @@ def grown(moment: Moment, after: State, number: int, call: Call, answer: Answer)
     return origins
 
 
+def gone(before: State, after: State) -> Set[Thing]:
+    """What is closed, unbound, unlinked or out of use after a call and was not before it."""
+    return {
+        *((DESCRIPTOR, *key) for key in before.descriptors.keys() - after.descriptors.keys()),
+        *((NAME, name) for name in before.names.keys() - after.names.keys()),
+        *((LINK, *link) for link in before.links - after.links),
+        *((CONTAINER, container) for container in before.used() - after.used()),
+    }
+
+
 def moved_on(moment: Moment, after: State, number: int, call: Call, answer: Answer) -> Moment:
     """The moment after a call that was done, or that would have been."""
     began = moment.began
@@ -118,7 +131,11 @@ def moved_on(moment: Moment, after: State, number: int, call: Call, answer: Answ
     sorts = moment.sorts
     if call.kind in MADE:
         sorts = {**sorts, call.c: MADE[call.kind]}
-    return Moment(after, grown(moment, after, number, call, answer), began, sorts, moment.loaded)
+    ended, lost = moment.ended, gone(moment.state, after)
+    if lost:
+        ended = {**ended, **dict.fromkeys(lost, number)}
+    origins = grown(moment, after, number, call, answer)
+    return Moment(after, origins, began, sorts, moment.loaded, ended)
 
 
 def next_moment(moment: Moment, after: State, number: int, record: Any, answer: Answer) -> Moment:

@@ -14,8 +14,8 @@ from model.limits import DESCRIPTORS, FILES, HEADER_LENGTH, ITEMS, NAMES, PROCES
 from model.limits import VALUE_LENGTHS, Kind, Refusal
 from model.logtext import FORMS, Form
 from model.records import CALL_FIELDS, RULE_ITEMS, Rule, read_frame, stated_length
-from model.tracker import CONTAINER, DESCRIPTOR, LINK, NAME, NEW_THINGS, PROCESS, UNUSED, Fact
-from model.tracker import State, first_refusal, forbids, frame_facts, record_facts, refusals
+from model.tracker import CONTAINER, DESCRIPTOR, NAME, NEW_THINGS, PROCESS, UNUSED, Fact, State
+from model.tracker import first_refusal, forbids, frame_facts, record_facts, refusals
 from tools.phrases import WORD_OF_KIND
 from tools.words import Words, joined, numbers_text, plural, set_words
 
@@ -163,7 +163,7 @@ def out_of_range(case: Case, fact: Fact) -> Failed:
     return Failed(text, fact.field, allowed, fitting, offers=free_numbers(case, fact.field))
 
 
-# Rows 6 to 10: the state.
+# Rows 6 to 10, and 14 to 16 in 8's place: the state.
 
 
 def dead_process(case: Case, fact: Fact) -> Failed:
@@ -212,8 +212,16 @@ def taken(case: Case, fact: Fact) -> Failed:
     return Failed(text, fact.field, free, fitting, none, offers=free)
 
 
-def missing_descriptor(case: Case, fact: Fact) -> Failed:
-    """Row 8, a closed descriptor; a truncate needs one that leads to a file or a pipe."""
+def not_in_use(case: Case, fact: Fact) -> Failed:
+    """8: a label's container is not in use."""
+    value = case.value(fact)
+    state_of_it = "live" if value in limits.PROCESS_CONTAINERS else "in use"
+    text = f"{case.words.container(value)} is not {state_of_it}"
+    return Failed(text, fact.field, sorted(case.state.used()), "container{s} in use")
+
+
+def descriptor_closed(case: Case, fact: Fact) -> Failed:
+    """14: the descriptor is closed; a truncate needs one that leads to a file or a pipe."""
     owner = case.words.process(case.record.process)
     text = f"descriptor {case.value(fact)} of {owner} is closed"
     files = case.record.kind == Kind.TRUNCATE
@@ -224,42 +232,21 @@ def missing_descriptor(case: Case, fact: Fact) -> Failed:
     return Failed(text, fact.field, opened, fitting, f"{owner} has {none} open: open one first")
 
 
-def missing_name(case: Case, fact: Fact) -> Failed:
-    """Row 8, an unbound name."""
+def name_unbound(case: Case, fact: Fact) -> Failed:
+    """15: the name is unbound."""
     text, bound = f"{case.words.name(case.value(fact))} is unbound", sorted(case.state.names)
     none = "no name is bound: create a file first"
     return Failed(text, fact.field, bound, "bound one{s}", none)
 
 
-def missing_link(case: Case, fact: Fact) -> Failed:
-    """Row 8, a container that the caller does not map."""
+def no_link(case: Case, fact: Fact) -> Failed:
+    """16: the caller does not map the container."""
     caller = case.record.caller
     owner, other = case.words.process(case.record.process), case.words.container(case.value(fact))
     ends = {end for link in case.state.links if caller in link for end in link} - {caller}
     text = f"there is no link between {owner} and {other}"
     none = f"{owner} has no link at all: map a descriptor first"
     return Failed(text, fact.field, sorted(ends), "container{s} linked with it", none)
-
-
-def missing_container(case: Case, fact: Fact) -> Failed:
-    """Row 8, a container that is not in use."""
-    value = case.value(fact)
-    state_of_it = "live" if value in limits.PROCESS_CONTAINERS else "in use"
-    text = f"{case.words.container(value)} is not {state_of_it}"
-    return Failed(text, fact.field, sorted(case.state.used()), "container{s} in use")
-
-
-MISSING: Dict[str, Callable[[Case, Fact], Failed]] = {
-    DESCRIPTOR: missing_descriptor,
-    NAME: missing_name,
-    LINK: missing_link,
-    CONTAINER: missing_container,
-}
-
-
-def missing(case: Case, fact: Fact) -> Failed:
-    """Row 8."""
-    return MISSING[fact.thing](case, fact)
 
 
 def same_twice(case: Case, fact: Fact) -> Failed:
@@ -319,7 +306,10 @@ WORDINGS: Dict[Refusal, Callable[[Case, Fact], Failed]] = {
     Refusal.OUT_OF_RANGE: out_of_range,
     Refusal.DEAD_PROCESS: dead_process,
     Refusal.TAKEN: taken,
-    Refusal.MISSING: missing,
+    Refusal.NOT_IN_USE: not_in_use,
+    Refusal.DESCRIPTOR_CLOSED: descriptor_closed,
+    Refusal.NAME_UNBOUND: name_unbound,
+    Refusal.NO_LINK: no_link,
     Refusal.SAME_TWICE: same_twice,
     Refusal.NO_FILE: no_file,
     Refusal.RULES_FULL: rules_full,

@@ -54,7 +54,7 @@ what comes out, a line for each record:
   inhibit RULE            nothing is done: the call would break this rule
   modify RULE SUBSTITUTE  the write would break this rule and goes to the substitute
   rule NUMBER             the rule is loaded and has this number
-  refused NUMBER          nothing is done, for this reason:
+  refused NUMBER          nothing is done, for the first of these that applies:
 {REFUSAL_LINES}
   After 'refused 1' reading ends. An empty log gives no line. For a log of more than
   {LOG_LIMIT:,} bytes there is one line, 'log too long'.

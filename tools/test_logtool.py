@@ -415,15 +415,15 @@ def test_help(checks: Checks, options: Options) -> None:
 
 def test_show(checks: Checks, options: Options) -> None:
     expected = (
-        "1  allow                  start 0\n"
-        "2  allow                  create 0 name=5 descriptor=0 container=24\n"
-        "3  allow                  label container=24 item=1\n"
-        "4  rule 0                 forbid item=1 in=panel divert=port\n"
-        "5  allow                  device 0 descriptor=1 device=panel\n"
-        "6  allow                  read 0 descriptor=0\n"
-        "7  modify 0 3             write 0 descriptor=1\n"
-        "8  refused 8 (missing)    write 0 descriptor=2\n"
-        "9  refused 1 (cut short)  raw 10 00  # cut short\n"
+        "1  allow                           start 0\n"
+        "2  allow                           create 0 name=5 descriptor=0 container=24\n"
+        "3  allow                           label container=24 item=1\n"
+        "4  rule 0                          forbid item=1 in=panel divert=port\n"
+        "5  allow                           device 0 descriptor=1 device=panel\n"
+        "6  allow                           read 0 descriptor=0\n"
+        "7  modify 0 3                      write 0 descriptor=1\n"
+        "8  refused 14 (descriptor closed)  write 0 descriptor=2\n"
+        "9  refused 1 (cut short)           raw 10 00  # cut short\n"
     )
     check_output(checks, ["show", "-"], RUN_B_INPUT, expected.encode(), RUN_B_FAULT)
     text_file = os.path.join(ROOT, "logs", "run-b.log.txt")

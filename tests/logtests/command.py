@@ -1,6 +1,7 @@
 """Tests of the command ./runlog: statuses, answers and where messages go."""
 
 import os
+import re
 import shutil
 import subprocess
 import tempfile
@@ -10,7 +11,7 @@ from typing import Dict, Iterator, List, NamedTuple, Optional
 
 from model import ROOT
 from model.checks import Checks
-from model.limits import LOG_LIMIT
+from model.limits import LOG_LIMIT, RECORD_REFUSALS
 from model.logtext import assemble, record_text, split_records
 from model.test_runs import RUN_B_INPUT, RUN_B_OUTPUT
 from tests.logtests.compare import model_lines
@@ -151,6 +152,9 @@ def test_help(checks: Checks, program: Optional[str]) -> None:
             parts += ["cut short", "broken already", "32 rules", "exit status", ".txt", "logtool"]
             for part in parts:
                 checks.true(f"runlog {words}: says {part}", part in result.output)
+            listed = re.findall(r"^ {4}([ \d]\d)  \w", result.output, re.M)
+            places = [f"{number:>2}" for number in RECORD_REFUSALS]
+            checks.equal(f"runlog {words}: refusals by place", listed, places)
 
 
 def test_bad_words(checks: Checks, program: Optional[str]) -> None:

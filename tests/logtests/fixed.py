@@ -2,6 +2,7 @@
 
 import subprocess
 import time
+from pathlib import Path
 from typing import Dict, List, Tuple
 
 from model import ROOT
@@ -16,6 +17,8 @@ from tests.logtests.shorten import report
 
 RUNS = ROOT / "tests" / "logtests" / "runs.txt"
 RUN_NAMES = "CDEFGHIJKLMN"
+PAPERS = ROOT / "tests" / "logtests" / "papers.txt"
+PAPER_NUMBERS = {"2"}
 LOGS = ROOT / "logs"
 PAUSE = 0.05  # seconds between two pieces of an input
 CUT = f"refused {Refusal.CUT_SHORT}"
@@ -56,7 +59,7 @@ def check_log(checks: Checks, name: str, program: str, log: bytes, wanted: List[
     checks.true(name, fault is None, text)
 
 
-# The runs of document 01.
+# The runs of document 01, and the checks of document 02's papers.
 
 
 def test_empty_log(checks: Checks, program: str) -> None:
@@ -72,12 +75,15 @@ def test_run_b(checks: Checks, program: str) -> None:
     checks.equal("run B: output", program_output(program, RUN_B_INPUT), RUN_B_OUTPUT.encode())
 
 
-def read_runs() -> Dict[str, List[Tuple[bytes, str]]]:
-    """The runs of the file: for each name its records with their answers."""
-    runs: Dict[str, List[Tuple[bytes, str]]] = {}
+Runs = Dict[str, List[Tuple[bytes, str]]]  # for each name its records with their answers
+
+
+def read_runs(path: Path, front: str) -> Runs:
+    """The runs of a file, whose names begin with a word."""
+    runs: Runs = {}
     name = ""
-    for line in RUNS.read_text().splitlines():
-        if line.startswith("run "):
+    for line in path.read_text().splitlines():
+        if line.startswith(f"{front} "):
             name = line
             runs[name] = []
         elif line.strip() and not line.startswith("#"):
@@ -86,15 +92,28 @@ def read_runs() -> Dict[str, List[Tuple[bytes, str]]]:
     return runs
 
 
-def test_paper_runs(checks: Checks, program: str) -> None:
-    """Runs C to N; the model is held to the same outcomes."""
-    runs = read_runs()
-    checks.equal("runs of document 01", "".join(name[4] for name in runs), RUN_NAMES)
+def check_runs(checks: Checks, program: str, runs: Runs) -> None:
+    """Check the outcomes of runs; the model is held to the same."""
     for name, pairs in runs.items():
         log = b"".join(record for record, _ in pairs)
         wanted = [answer for _, answer in pairs]
         checks.equal(f"{name}, in the model", model_lines(log), wanted)
         check_log(checks, name, program, log, wanted)
+
+
+def test_paper_runs(checks: Checks, program: str) -> None:
+    """Runs C to N of document 01."""
+    runs = read_runs(RUNS, "run")
+    checks.equal("runs of document 01", "".join(name[4] for name in runs), RUN_NAMES)
+    check_runs(checks, program, runs)
+
+
+def test_later_papers(checks: Checks, program: str) -> None:
+    """The checks of document 02's papers."""
+    runs = read_runs(PAPERS, "paper")
+    numbers = {name.partition(":")[0].split()[1] for name in runs}
+    checks.equal("papers of document 02", numbers, PAPER_NUMBERS)
+    check_runs(checks, program, runs)
 
 
 def test_demonstration_logs(checks: Checks, program: str) -> None:

@@ -2,14 +2,14 @@
 
 import itertools
 from collections import Counter
-from typing import Callable, List, NamedTuple, Optional
+from typing import Callable, List, NamedTuple, Optional, Tuple
 
 from model.choices import Choices
 from model.generate import MIXES, Generator
 from model.limits import CALL_TAG, CONTAINERS, DEVICES, ITEMS, LOG_LIMIT, RULE_LIMIT, VALUE_LENGTHS
 from model.limits import Kind, process_container
 from model.logtext import split_records
-from model.records import Call, encode, forbid, frame_bytes, read_frame
+from model.records import Call, Rule, encode, forbid, frame_bytes, read_frame
 from model.tracker import forbids, frame_refusals
 from tests.logtests.compare import difference, model_lines, program_output
 
@@ -46,13 +46,21 @@ class LogGenerator(Generator):
         return None if data and self._one_too_many(data) else data
 
     def _aimed_write(self) -> List[Call]:
-        """Calls that lead to a write which breaks a loaded rule, for a rule of one item."""
+        """Calls that lead to a write which breaks a loaded rule, for a rule of one item.
+
+        The item gets over links to where the rule forbids it, or else to a device.
+        """
         state = self.proposer.state
         rules = [rule for rule in state.rules if len(rule.items) == 1]
         live = self.proposer.live()
         if not rules or not live:
             return []
         rule = self.choices.pick(rules)
+        far = self._far_descriptors(rule)
+        if far:
+            process, descriptor = self.choices.pick(far)
+            label = Call(Kind.LABEL, 0, process_container(process), rule.items[0])
+            return [label, Call(Kind.WRITE, process, descriptor)]
         process = self.choices.pick(live)
         closed = self.proposer.closed(process)
         forbidden = [c for c in DEVICES if forbids(rule, c, rule.items[0])]
@@ -64,6 +72,21 @@ class LogGenerator(Generator):
             Call(Kind.DEVICE, process, descriptor, self.choices.pick(forbidden)),
             Call(Kind.WRITE, process, descriptor),
         ]
+
+    def _far_descriptors(self, rule: Rule) -> List[Tuple[int, int]]:
+        """Processes and descriptors by which an item gets over links to where a rule forbids it.
+
+        The rule is broken neither in the process nor in the container that is written to.
+        """
+        state, item = self.proposer.state, rule.items[0]
+
+        def breaks(container: int) -> bool:
+            return any(forbids(rule, c, item) for c in state.reach(container))
+
+        givers = {source for source, _ in state.links}
+        far = {c for c in givers if not forbids(rule, c, item) and breaks(c)}
+        keys = sorted(key for key, target in state.descriptors.items() if target in far)
+        return [key for key in keys if not breaks(process_container(key[0]))]
 
     def _held_probe(self) -> Optional[bytes]:
         """A rule against one container's item: refused only because the item is there."""

@@ -1,4 +1,7 @@
-"""Programs with a planted fault, made from the model: the shortcuts that document 01 names."""
+"""Programs with a planted fault, made from the model: the shortcuts that document 01 names.
+
+Some answer as before a paper of document 02.
+"""
 
 import compileall
 import shutil
@@ -59,13 +62,24 @@ def exit_process(state, call):
     state.links = links
 tracker.EFFECTS[Kind.EXIT] = exit_process
 """,
+    "answers 8 whatever is missing": """
+tracker.MISSING = dict.fromkeys(tracker.MISSING, Refusal.NOT_IN_USE)
+""",
+    "answers what is missing before what is taken": """
+right_first = tracker.first_refusal
+def first_refusal(numbers):
+    missing = numbers & set(tracker.MISSING.values())
+    later = numbers - {Refusal.TAKEN} if missing else numbers
+    return right_first(later)
+tracker.first_refusal = first_refusal
+""",
 }
 
 PROGRAM = """#!{python} -S
 import sys
 sys.path.insert(0, {folder!r})
 from model import tracker
-from model.limits import LOG_LIMIT, Kind
+from model.limits import LOG_LIMIT, Kind, Refusal
 {fault}
 log = sys.stdin.buffer.read(LOG_LIMIT + 1)
 if len(log) > LOG_LIMIT:

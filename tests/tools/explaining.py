@@ -5,7 +5,7 @@ from pathlib import Path
 from typing import List
 
 from model.limits import KINDS, RECORD_REFUSALS
-from model.logtext import assemble
+from model.logtext import REFUSAL_WORDS, assemble
 from tests.logtests.wrong import FAULTS, make_program
 from tests.tools.session import LOGS, STORIES, Result, Session, logtool, story_log
 from tools.explain import Explanation, explain
@@ -200,35 +200,112 @@ REFUSED = [
         ],
     ),
     (
-        PANEL + "write 0 descriptor=2",
-        ["refused 8 (missing)", "descriptor 2 of process 0 is closed; open ones are 0, 1"],
+        FILE + "label container=25 item=1",
+        [
+            "refused 8 (not in use)",
+            "container 25 is not in use; containers in use are 0 to 8, 24",
+            "no earlier record brought it into use",
+        ],
     ),
-    (LIVE + "read 0 descriptor=2", ["process 0 has none open: open one first"]),
+    (
+        FILE + "label container=process5 item=1",
+        ["refused 8 (not in use)", "process 5 is not live; containers in use are"],
+    ),
+    (
+        FILE + "unlink 0 name=5\nclose 0 descriptor=0\nlabel container=24 item=1",
+        ["file 24 is not in use; containers in use are 0 to 8", "record 4 ended its use"],
+    ),
+    (
+        LIVE + "start 1\nexit 1\nlabel container=process1 item=1",
+        ["process 1 is not live", "record 3 ended its use"],
+    ),
+    (
+        PANEL + "write 0 descriptor=2",
+        [
+            "refused 14 (descriptor closed)",
+            "descriptor 2 of process 0 is closed; open ones are 0, 1",
+            "no earlier record opened it",
+        ],
+    ),
+    (
+        LIVE + "read 0 descriptor=2",
+        ["refused 14 (descriptor closed)", "process 0 has none open: open one first"],
+    ),
     (
         LIVE + "device 0 descriptor=1 device=panel\ntruncate 0 descriptor=9",
         ["descriptor 9 of process 0 is closed; process 0 has no file or pipe open: open one first"],
     ),
-    (FILE + "label container=process5 item=1", ["process 5 is not live; containers in use are"]),
-    (PANEL + "truncate 0 descriptor=2", ["closed; the only open one with a file or pipe is 0"]),
-    (FILE + "open 0 name=6 descriptor=1", ["name 6 is unbound; the only bound one is 5"]),
-    (LIVE + "unlink 0 name=6", ["name 6 is unbound; no name is bound: create a file first"]),
+    (
+        PANEL + "truncate 0 descriptor=2",
+        [
+            "refused 14 (descriptor closed)",
+            "closed; the only open one with a file or pipe is 0",
+        ],
+    ),
+    (
+        PANEL + "close 0 descriptor=1\nwrite 0 descriptor=1",
+        ["descriptor 1 of process 0 is closed; the only open one is 0", "record 6 closed it"],
+    ),
+    (
+        PANEL + "exit 0\nstart 0\nwrite 0 descriptor=1",
+        ["process 0 has none open: open one first", "record 6 closed it"],
+    ),
+    (
+        FILE + "fork 0 child=1\nclose 0 descriptor=0\ndup 0 from=0 to=1",
+        ["refused 14 (descriptor closed)", "record 4 closed it"],
+    ),
+    (
+        FILE + "fork 0 child=1\nclose 0 descriptor=0\nclose 1 descriptor=1",
+        ["descriptor 1 of process 1 is closed; the only open one is 0", "no earlier record opened"],
+    ),
+    (
+        FILE + "open 0 name=6 descriptor=1",
+        [
+            "refused 15 (name unbound)",
+            "name 6 is unbound; the only bound one is 5",
+            "no earlier record bound it",
+        ],
+    ),
+    (
+        LIVE + "unlink 0 name=6",
+        [
+            "refused 15 (name unbound)",
+            "name 6 is unbound; no name is bound: create a file first",
+        ],
+    ),
+    (
+        FILE + "rename 0 from=5 to=6\nlink 0 from=5 to=7",
+        ["name 5 is unbound; the only bound one is 6", "record 3 unbound it"],
+    ),
     (
         LIVE + "unmap 0 container=24",
-        ["no link between process 0 and container 24; process 0 has no link at all"],
+        [
+            "refused 16 (no link to unmap)",
+            "no link between process 0 and container 24; process 0 has no link at all",
+            "no earlier record made one",
+        ],
     ),
     (
         FILE + "map-read 0 descriptor=0\nunmap 0 container=25",
-        ["the only container linked with it is 24"],
+        ["refused 16 (no link to unmap)", "the only container linked with it is 24"],
     ),
     (
-        FILE + "label container=25 item=1",
-        ["container 25 is not in use; containers in use are 0 to 8, 24"],
+        FILE + "map-read 0 descriptor=0\nunmap 0 container=24\nunmap 0 container=24",
+        ["no link between process 0 and file 24", "record 4 ended the link"],
     ),
     (
         FILE + "open 0 name=6 descriptor=0",
         [
             "refused 7 (taken)",
-            "with that mended, refused with 8 (missing): name 6 is unbound",
+            "with that mended, refused with 15 (name unbound): name 6 is unbound",
+        ],
+    ),
+    (
+        FILE + "dup 0 from=3 to=0",
+        [
+            "refused 7 (taken)",
+            "with that mended, refused with 14 (descriptor closed): descriptor 3 of process 0 is "
+            "closed",
         ],
     ),
     (
@@ -462,7 +539,11 @@ def test_fixed_logs(session: Session) -> None:
     kinds = {assemble(log.splitlines()[-1].encode())[3] for log, _ in SENTENCES}
     session.checks.true("a sentence for every kind", kinds >= set(KINDS), str(kinds))
     session.checks.equal("words for every kind", set(CALLS), set(KINDS))
-    session.checks.equal("wordings for every refusal", set(WORDINGS), set(RECORD_REFUSALS))
+    session.checks.equal("wordings for every refusal", list(WORDINGS), list(RECORD_REFUSALS))
+    session.checks.equal("a word for every refusal", list(REFUSAL_WORDS), list(RECORD_REFUSALS))
+    answers = {said_of(log).answer for log, _ in REFUSED}
+    wanted = {f"refused {number} ({word})" for number, word in REFUSAL_WORDS.items()}
+    session.checks.equal("a log for every refusal", answers, wanted)
 
 
 def said_of(log: str) -> Explanation:

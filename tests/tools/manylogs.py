@@ -1,7 +1,7 @@
 """Properties of explain and draw on many random logs, checked by means of their own."""
 
 from collections import Counter
-from typing import Any, Dict, Iterator, List, Optional, Set, Tuple
+from typing import Any, Callable, Dict, Iterator, List, Optional, Set, Tuple
 from xml.etree import ElementTree
 
 from model import tracker
@@ -184,13 +184,14 @@ def advice_faults(case: Case, reason: Reason, choices: Choices) -> Iterator[str]
     failed = reason.failed
     if case.record is None or not all(test.values for test in failed):
         return
+    tested = RECORD_REFUSALS[: RECORD_REFUSALS.index(reason.number) + 1]
     for test in failed:
         for value in {0, len(test.values) - 1, choices.below(len(test.values))}:
             record = case.record
             for other in failed:
                 record = replaced(record, other.field, other.values[0])
             record = replaced(record, test.field, test.values[value])
-            if min(numbers_of(case.state, record), default=99) <= reason.number:
+            if {*tested} & numbers_of(case.state, record):
                 yield f"{record} for {test.text} is refused with {numbers_of(case.state, record)}"
         for value in other_values(test, choices):
             if not numbers_of(case.state, replaced(case.record, test.field, value)):
@@ -215,6 +216,30 @@ def refusal_faults(step: Step, said: Explanation, choices: Choices) -> Iterator[
     for text in shown:
         for fault in offer_faults(step, text):
             yield f"record {step.number}: {text}: {fault}"
+
+
+# What became of a thing that is missing, by the number of the refusal.
+
+THERE: Dict[int, Callable[[State, Call], bool]] = {
+    8: lambda state, call: call.a in state.used(),
+    14: lambda state, call: (call.process, call.a) in state.descriptors,
+    15: lambda state, call: call.a in state.names,
+    16: lambda state, call: bool({(call.a, call.caller), (call.caller, call.a)} & state.links),
+}
+
+
+def past_faults(steps: List[Step], step: Step, said: Explanation) -> Iterator[str]:
+    """Whether the last record that ended the thing is named, or that there never was one."""
+    number = step.answer.numbers[0]
+    if number not in THERE:
+        return
+    earlier = reversed(steps[: step.number - 1])
+    ended = next((s.number for s in earlier if THERE[number](s.before.state, step.record)), None)
+    front = "no earlier record " if ended is None else f"record {ended} "
+    found = [text for _, text in said.why if text.startswith(front)]
+    others = [text for _, text in said.why if "record" in text]
+    if len(found) != 1 or found != others:
+        yield f"record {step.number}: {others} for '{front}'"
 
 
 # What is offered in place of a refused record.
@@ -316,12 +341,13 @@ def stopped_faults(step: Step, said: Explanation) -> Iterator[str]:
 # All of a log.
 
 
-def step_faults(step: Step, choices: Choices) -> Iterator[str]:
+def step_faults(steps: List[Step], step: Step, choices: Choices) -> Iterator[str]:
     """What is wrong with what is said of a record."""
     said = explain(step)
     yield from change_faults(step, said)
     if step.answer.word == "refused":
         yield from refusal_faults(step, said, choices)
+        yield from past_faults(steps, step, said)
     if step.judged is not None:
         yield from stopped_faults(step, said)
     if not full_lines(said, 100, None) or not said.sentence:
@@ -381,7 +407,7 @@ def log_faults(seed: int) -> Tuple[List[str], List[Step]]:
     faults = [] if [s.answer for s in steps] == Tracker().run_log(log) else ["answers"]
     faults += provenance_faults(steps)
     for step in steps:
-        faults += step_faults(step, choices)
+        faults += step_faults(steps, step, choices)
     for at in {len(steps), choices.below(len(steps) + 1)}:
         faults += picture_faults(steps, at)
     if seed % PAGE_EVERY == 0:

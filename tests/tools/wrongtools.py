@@ -100,12 +100,12 @@ def fewer_values(right: Callable) -> Callable:
 
 def any_descriptor(right: Callable) -> Callable:
     """Any descriptor is said to pass."""
+    return lambda *given: right(*given)._replace(values=DESCRIPTORS)
 
-    def missing(*given: Any) -> Any:
-        test = right(*given)
-        return test._replace(values=DESCRIPTORS) if "closed" in test.text else test
 
-    return missing
+def forgets_ends(right: Callable) -> Callable:
+    """What a record ended is said never to have been there."""
+    return lambda *given: set()
 
 
 # What is replaced, and by what.
@@ -114,6 +114,7 @@ WRONG: Dict[str, Tuple[Any, str, Maker]] = {
     "forgets givers": (provenance, "grown", forgets_givers),
     "skips links": (provenance, "routes", skips_links),
     "renews links": (provenance, "moved_on", renews_links),
+    "forgets what ended": (provenance, "gone", forgets_ends),
     "forgets closed entries": (changes, "moves", forgets_closed),
     "does not say the last change": (explain, "change_lines", leaves_out_last),
     "promises to allow": (explain, "mended_lines", promises),
@@ -127,7 +128,7 @@ WRONG: Dict[str, Tuple[Any, str, Maker]] = {
 }
 WRONG_WORDINGS: Dict[str, Tuple[Refusal, Maker]] = {
     "leaves out what would pass": (Refusal.TAKEN, fewer_values),
-    "names what would not pass": (Refusal.MISSING, any_descriptor),
+    "names what would not pass": (Refusal.DESCRIPTOR_CLOSED, any_descriptor),
 }
 
 

@@ -1,6 +1,7 @@
 //! Numbers of the box (document 01, The box) as types of their own, and the refusals.
 
-/// Why a record is refused: document 01, What a record gets.
+/// Why a record is refused: document 01, What a record gets, and document 02, Paper 2. In the order of the tests: the
+/// first that applies is given.
 #[derive(Clone, Copy, PartialEq, Eq, Debug)]
 pub enum Refusal {
     CutShort = 1,
@@ -10,7 +11,10 @@ pub enum Refusal {
     OutOfRange = 5,
     DeadProcess = 6,
     Taken = 7,
-    Missing = 8,
+    NotInUse = 8,
+    DescriptorClosed = 14,
+    NameUnbound = 15,
+    NoLink = 16,
     SameTwice = 9,
     NoFile = 10,
     RulesFull = 11,

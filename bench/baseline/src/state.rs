@@ -134,13 +134,13 @@ impl State {
     }
 
     fn opened(&self, process: Process, descriptor: Descriptor) -> Result<Container, Refusal> {
-        refuse_if(!self.is_open(process, descriptor), Refusal::Missing)?;
+        refuse_if(!self.is_open(process, descriptor), Refusal::DescriptorClosed)?;
         Ok(Container::member(self.descriptors[process.index()][descriptor.index()]))
     }
 
     fn bound(&self, name: Name) -> Result<Container, Refusal> {
         let entry = self.names[name.index()];
-        refuse_if(entry == UNBOUND, Refusal::Missing)?;
+        refuse_if(entry == UNBOUND, Refusal::NameUnbound)?;
         Ok(Container::member(entry))
     }
 

@@ -69,7 +69,7 @@ ranges label = row unused aContainer anItem unused
 unfoldable pub fieldsFit : Ranges → Call → Bool
 fieldsFit r q = inRange (r .process) (q .process) && inRange (r .a) (q .a) && inRange (r .b) (q .b) && inRange (r .c) (q .c)
 
--- ---- 6 to 10: the tables before the call, process p, fields a, b, c
+-- ---- 6 to 10, and 14 to 16 in the place of 8: the tables before the call, process p, fields a, b, c
 -- 6: the calling process isn't live (not for start, label)
 unfoldable pub dead : Tables → Call → Bool
 dead t q = not (isKind start q || isKind label q) && not (isLive t (q .process))

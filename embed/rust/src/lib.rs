@@ -15,9 +15,45 @@ pub const fn records_in(bytes: usize) -> usize {
     bytes / 3 + (bytes % 3 != 0) as usize
 }
 
-/// The number of a refusal (document 01, What a record gets).
+/// The number of a refusal (document 01, What a record gets). The constants stand in the order in which the tests are tried, and the first
+/// that applies is the answer: the earliest place decides, not the lowest number (document 02, Paper 2).
 #[derive(Clone, Copy, Debug, PartialEq, Eq)]
 pub struct Refusal(pub u8);
+
+impl Refusal {
+    /// The header or the value runs past the end; reading ends.
+    pub const CUT_SHORT: Refusal = Refusal(1);
+    /// No tag of a record.
+    pub const UNKNOWN_TAG: Refusal = Refusal(2);
+    /// Not the tag's length.
+    pub const WRONG_LENGTH: Refusal = Refusal(3);
+    /// No kind of a call, or no action of a rule.
+    pub const UNKNOWN_KIND: Refusal = Refusal(4);
+    /// A field outside its range, or one that is not used and not 0.
+    pub const OUT_OF_RANGE: Refusal = Refusal(5);
+    /// The calling process is not live.
+    pub const DEAD_PROCESS: Refusal = Refusal(6);
+    /// What is to be new is there already: a process, a descriptor, a name or a container.
+    pub const TAKEN: Refusal = Refusal(7);
+    /// A label's container is not in use. The next three stand in the same place.
+    pub const NOT_IN_USE: Refusal = Refusal(8);
+    /// The descriptor is closed (kinds 6 to 12).
+    pub const DESCRIPTOR_CLOSED: Refusal = Refusal(14);
+    /// The name is unbound (kinds 2, 14, 15 and 16).
+    pub const NAME_UNBOUND: Refusal = Refusal(15);
+    /// There is no link to unmap.
+    pub const NO_LINK: Refusal = Refusal(16);
+    /// A pipe's two descriptors, or a rule's two items, are equal.
+    pub const SAME_TWICE: Refusal = Refusal(9);
+    /// A truncate of a device.
+    pub const NO_FILE: Refusal = Refusal(10);
+    /// 32 rules are held.
+    pub const RULES_FULL: Refusal = Refusal(11);
+    /// The present state breaks the rule.
+    pub const BROKEN_ALREADY: Refusal = Refusal(12);
+    /// A lent slice is too short; of no record.
+    pub const SLICE_SHORT: Refusal = Refusal(13);
+}
 
 /// What a record gets.
 #[derive(Clone, Copy, Debug, PartialEq, Eq)]
@@ -149,8 +185,8 @@ impl Monitor {
         Answer::given(unsafe { c::pomtvia_answer_in(self, bytes.as_ptr(), bytes.len()) })
     }
 
-    /// Answers the records of a log in order. Their codes go to the front of `codes`, and the result is how many they are. Refused with 13
-    /// where `codes` is shorter; then nothing changes. [`records_in`] says how long is long enough.
+    /// Answers the records of a log in order. Their codes go to the front of `codes`, and the result is how many they are.
+    /// [`Refusal::SLICE_SHORT`] where `codes` is shorter; then nothing changes. [`records_in`] says how long is long enough.
     pub fn run(&mut self, log: &[u8], codes: &mut [u32]) -> Result<usize, Refusal> {
         let mut count = 0;
         // As in `answer`; `codes` is borrowed apart from the monitor and the log.
@@ -160,7 +196,7 @@ impl Monitor {
         unless_refused(refusal, count as usize)
     }
 
-    /// The items of a container, bit i for item i. Refused with 5 where the number is above 63.
+    /// The items of a container, bit i for item i. [`Refusal::OUT_OF_RANGE`] where the number is above 63.
     pub fn items(&self, container: u8) -> Result<u64, Refusal> {
         let mut set = 0;
         // As in `renew`; the monitor is only read.
@@ -169,7 +205,8 @@ impl Monitor {
     }
 
     /// The containers that hold an item, at the front of `out`, each once, in rising number; the result is how many, and the elements
-    /// behind them are as they were. Refused with 5 where the item is above 63, with 13 where `out` is shorter; then `out` is as it was.
+    /// behind them are as they were. [`Refusal::OUT_OF_RANGE`] where the item is above 63, [`Refusal::SLICE_SHORT`] where `out` is shorter;
+    /// then `out` is as it was.
     pub fn holders(&self, item: u8, out: &mut [u16]) -> Result<usize, Refusal> {
         let mut count = 0;
         // As in `items`; `out` is borrowed apart from the monitor.

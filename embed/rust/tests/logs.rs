@@ -106,15 +106,15 @@ fn short_slices_are_refused() {
     let log = [0x10, 0, 5, 1, 0, 0, 0, 0, 0x10, 0, 5, 19, 0, 8, 3, 0];
     let mut m = Monitor::new();
     let mut codes = [77; 1];
-    assert_eq!(m.run(&log, &mut codes), Err(Refusal(13)));
+    assert_eq!(m.run(&log, &mut codes), Err(Refusal::SLICE_SHORT));
     assert!(codes == [77] && m == Monitor::new(), "nothing changed");
     assert_eq!(m.run(&log, &mut [0; 2]), Ok(2));
     assert_eq!(m.run(&[], &mut []), Ok(0));
-    assert_eq!(m.answer(&[]), Answer::Refused(Refusal(1)));
+    assert_eq!(m.answer(&[]), Answer::Refused(Refusal::CUT_SHORT));
     assert_eq!(m.items(8), Ok(8));
-    assert_eq!(m.holders(3, &mut []), Err(Refusal(13)));
+    assert_eq!(m.holders(3, &mut []), Err(Refusal::SLICE_SHORT));
     assert_eq!(m.holders(4, &mut []), Ok(0));
-    assert_eq!(m.holders(67, &mut []), Err(Refusal(5)));
+    assert_eq!(m.holders(67, &mut []), Err(Refusal::OUT_OF_RANGE));
     m.renew();
     assert!(m == Monitor::new(), "fresh again");
 }
@@ -129,8 +129,35 @@ fn holders_rise() {
     assert_eq!(m.holders(3, &mut out), Ok(3));
     assert_eq!(out, [1, 7, 8, 99]);
     let mut short = [99; 2];
-    assert_eq!(m.holders(3, &mut short), Err(Refusal(13)));
+    assert_eq!(m.holders(3, &mut short), Err(Refusal::SLICE_SHORT));
     assert_eq!(short, [99; 2], "a refused query leaves every element");
+}
+
+#[test]
+fn the_number_tells_what_was_missing() {
+    let mut m = Monitor::new();
+    let call = |kind, a, b, c| Call { kind, process: 0, a, b, c };
+    let made = [call(1, 0, 0, 0), call(3, 5, 0, 24), call(5, 1, 1, 0)];
+    assert!(made.iter().all(|&q| m.call(q) == Answer::Allow), "process 0, file 24 as descriptor 0, device 1 as descriptor 1");
+    let closed = (6..=12).map(|kind| (call(kind, 3, if kind == 6 { 4 } else { 0 }, 0), Refusal::DESCRIPTOR_CLOSED));
+    let unbound = [2, 14, 15, 16].map(|kind| (call(kind, 6, if kind == 14 { 0 } else { 7 }, 0), Refusal::NAME_UNBOUND));
+    let others = [
+        (call(13, 24, 0, 0), Refusal::NO_LINK),
+        (call(19, 25, 0, 0), Refusal::NOT_IN_USE),
+        // The earliest place decides.
+        (call(6, 3, 0, 0), Refusal::TAKEN),
+        (call(2, 6, 0, 0), Refusal::TAKEN),
+        (call(16, 6, 5, 0), Refusal::TAKEN),
+        (call(10, 1, 0, 0), Refusal::NO_FILE),
+        (call(4, 3, 3, 25), Refusal::SAME_TWICE),
+        (call(4, 0, 0, 25), Refusal::TAKEN),
+    ];
+    let before = m.clone();
+    for (q, refusal) in closed.chain(unbound).chain(others) {
+        assert_eq!(m.call(q), Answer::Refused(refusal), "{q:?}");
+        assert_eq!(m.on_call(q), Answer::Refused(refusal), "{q:?} by the hook");
+    }
+    assert!(m == before, "nothing changed");
 }
 
 #[test]

@@ -1,4 +1,5 @@
-//! Refusals 6 to 10 (document 01, What a record gets), and what an accepted call does.
+//! Refusals 6 to 10, and 14 to 16 in 8's place (document 01, What a record gets; document 02, Paper 2), and what an
+//! accepted call does.
 
 use super::{refuse_if, Change, Effect, Flow, Gift, State};
 use crate::call::{Act, Call};
@@ -23,7 +24,7 @@ impl State {
                 changing(Change::Start(process))
             }
             Call::Label(container, item) => {
-                refuse_if(!self.in_use(container), Refusal::Missing)?;
+                refuse_if(!self.in_use(container), Refusal::NotInUse)?;
                 giving(self.gift(Set::only(item.index()), container))
             }
             Call::By(process, act) => {
@@ -119,7 +120,7 @@ impl State {
     fn admit_unmap(&self, process: Process, container: Container) -> Admitted {
         let own = process.container().index();
         let mapped = self.feeds[own] | self.fed_by[own];
-        refuse_if(!mapped.has(container.index()), Refusal::Missing)?;
+        refuse_if(!mapped.has(container.index()), Refusal::NoLink)?;
         changing(Change::Unmap(process, container))
     }
 

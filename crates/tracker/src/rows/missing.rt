@@ -17,7 +17,7 @@ ghost use Rattle.flow.specs.Records.{kindOf};
 ghost use Rattle.store.specs.Maps.{mapsBefore};
 ghost use Rattle.tracker.specs.Rows.{numberUnless, missingAt};
 
-// 0 where it is there.
+// The number, or 0 where the thing is there.
 fn unless(there: bool, number: u8) -> u8
     ensures { λ r. ⌜ r ≡ numberUnless there number ⌝ }
 {
