@@ -178,7 +178,7 @@ def refused_cases(place: Place) -> Dict[str, LogCase]:
         ("call out of range", [], encode(Call(Kind.START, PROCESSES.stop)), Refusal.OUT_OF_RANGE),
         ("read of a dead process", place.dying, encode(dead_read), Refusal.DEAD_PROCESS),
         ("create, file in use", free, encode(create), Refusal.TAKEN),
-        ("label, file not in use", free, encode(Call(Kind.LABEL, 0, FREE)), Refusal.NOT_IN_USE),
+        ("label, file not in use", free, encode(Call(Kind.LABEL, 0, FREE)), Refusal.MISSING),
         ("read of a closed descriptor", free, encode(read), Refusal.DESCRIPTOR_CLOSED),
         ("open of an unbound name", free, encode(opening), Refusal.NAME_UNBOUND),
         ("unmap, no link", [], encode(Call(Kind.UNMAP, process, FREE)), Refusal.NO_LINK),

@@ -103,7 +103,7 @@ enum pomtvia_refusal {
     POMTVIA_OUT_OF_RANGE = 5,
     POMTVIA_DEAD_PROCESS = 6,
     POMTVIA_TAKEN = 7,
-    POMTVIA_NOT_IN_USE = 8,         /* a label's container */
+    POMTVIA_MISSING = 8,            /* a label's container is not in use */
     POMTVIA_DESCRIPTOR_CLOSED = 14, /* field a of dup, close, read, write, truncate, map read, map both */
     POMTVIA_NAME_UNBOUND = 15,      /* field a of open, unlink, rename, link */
     POMTVIA_NO_LINK = 16,           /* between the process and the container to unmap */

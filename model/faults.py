@@ -7,7 +7,7 @@ from model.limits import ACTIONS, CALL_TAG, CONFINE_TAG, CONTAINERS, DEVICES, FO
 from model.limits import KINDS, PROCESSES, RULE_LIMIT, SEPARATE_TAG, VALUE_LENGTHS, Kind
 from model.proposals import ROLES, Proposer
 from model.records import CALL_FIELDS, Call, Rule, encode, frame_bytes, separate
-from model.tracker import FIELD_RANGES, MISSING, NEEDED_THINGS, is_there
+from model.tracker import FIELD_RANGES, LACKED, NEEDED_THINGS, is_there
 
 # Tags beside the known ones, those of later papers first.
 OTHER_TAGS = [*range(0x14, 0x1C), 0x00, 0x01, 0x0F, 0x1C, 0x20, 0x7F, 0x80, 0x90, 0xFF]
@@ -65,7 +65,7 @@ class FaultMaker:
 
     def missing(self) -> Optional[bytes]:
         """A call that fits but for field a, which names something that is not there."""
-        thing = self.choices.pick(list(MISSING))
+        thing = self.choices.pick(list(LACKED))
         kind = self.choices.pick([k for k, needed in NEEDED_THINGS.items() if needed == thing])
         callers = self.proposer.fitting(ROLES[kind][0], 0)
         if not callers:

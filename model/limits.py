@@ -79,7 +79,7 @@ class Refusal(Number):
     OUT_OF_RANGE = 5
     DEAD_PROCESS = 6
     TAKEN = 7
-    NOT_IN_USE = 8  # a container to label
+    MISSING = 8  # the container to label is not in use
     DESCRIPTOR_CLOSED = 14
     NAME_UNBOUND = 15
     NO_LINK = 16  # to unmap

@@ -18,7 +18,7 @@ EMPTY_SET = "none"
 SHOWN = 60  # characters of a word in a message
 
 # The bench's words, in the order of the tests: document 01, the table of refusals; document 02,
-# Paper 2, for those in 8's place.
+# Paper 2, for 14 to 16.
 REFUSAL_WORDS = {
     Refusal.CUT_SHORT: "cut short",
     Refusal.UNKNOWN_TAG: "unknown tag",
@@ -27,7 +27,7 @@ REFUSAL_WORDS = {
     Refusal.OUT_OF_RANGE: "out of range",
     Refusal.DEAD_PROCESS: "dead process",
     Refusal.TAKEN: "taken",
-    Refusal.NOT_IN_USE: "not in use",
+    Refusal.MISSING: "missing",
     Refusal.DESCRIPTOR_CLOSED: "descriptor closed",
     Refusal.NAME_UNBOUND: "name unbound",
     Refusal.NO_LINK: "no link to unmap",

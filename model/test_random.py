@@ -245,7 +245,7 @@ PAIRS = [
     (Refusal.UNKNOWN_KIND, Refusal.BROKEN_ALREADY),
     (Refusal.OUT_OF_RANGE, Refusal.DEAD_PROCESS),
     (Refusal.OUT_OF_RANGE, Refusal.TAKEN),
-    (Refusal.OUT_OF_RANGE, Refusal.NOT_IN_USE),
+    (Refusal.OUT_OF_RANGE, Refusal.MISSING),
     (Refusal.OUT_OF_RANGE, Refusal.DESCRIPTOR_CLOSED),
     (Refusal.OUT_OF_RANGE, Refusal.NAME_UNBOUND),
     (Refusal.OUT_OF_RANGE, Refusal.NO_LINK),

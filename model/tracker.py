@@ -315,11 +315,11 @@ NEEDED_THINGS: Dict[int, str] = {
 }
 
 # The number tells what was not there: document 02, Paper 2.
-MISSING: Dict[str, Refusal] = {
+LACKED: Dict[str, Refusal] = {
     DESCRIPTOR: Refusal.DESCRIPTOR_CLOSED,
     NAME: Refusal.NAME_UNBOUND,
     LINK: Refusal.NO_LINK,
-    CONTAINER: Refusal.NOT_IN_USE,
+    CONTAINER: Refusal.MISSING,
 }
 
 # Row 6, dead process: the kinds without a calling process.
@@ -384,7 +384,7 @@ def state_facts(state: State, call: Call) -> Iterator[Fact]:
             yield Fact(Refusal.TAKEN, field, thing, containers=target)
     needed = NEEDED_THINGS.get(call.kind)
     if needed and not is_there(state, call, needed, call.a):
-        yield Fact(MISSING[needed], "a", needed)
+        yield Fact(LACKED[needed], "a", needed)
 
 
 def substitutes(action: int) -> Set[int]:

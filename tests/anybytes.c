@@ -83,7 +83,7 @@ static int is_refused(uint32_t answer)
 static int can_get(unsigned kind, unsigned number)
 {
     switch (number) {
-    case POMTVIA_NOT_IN_USE:
+    case POMTVIA_MISSING:
         return kind == POMTVIA_LABEL;
     case POMTVIA_DESCRIPTOR_CLOSED:
         return kind >= POMTVIA_DUP && kind <= POMTVIA_MAP_BOTH;

@@ -5,7 +5,7 @@ from typing import Dict, List, NamedTuple, Optional, Tuple
 from model.limits import RULE_LIMIT, Kind, Refusal
 from model.logtext import REFUSAL_WORDS, record_text
 from model.records import Call, Rule, encode
-from model.tracker import ALLOW, CONTAINER, DESCRIPTOR, LINK, MISSING, NAME, Answer, broken_places
+from model.tracker import ALLOW, CONTAINER, DESCRIPTOR, LACKED, LINK, NAME, Answer, broken_places
 from model.tracker import broken_rules, divert, divert_obstacle, judge, load_rule
 from tools.changes import Changes, changes_between
 from tools.names import NO_OWN, Own
@@ -165,7 +165,7 @@ def refusal_lines(words: Words, step: Step) -> List[Line]:
         failed = "; ".join(map(failed_text, reason.failed))
         word = REFUSAL_WORDS[reason.number]
         lines.append((0, f"with that mended, refused with {reason.number} ({word}): {failed}"))
-    if number in MISSING.values():
+    if number in LACKED.values():
         lines.append((0, past_text(step, first.facts[0].thing)))
     if number == Refusal.BROKEN_ALREADY:
         place = first.facts[0].containers[0]

@@ -212,7 +212,7 @@ def taken(case: Case, fact: Fact) -> Failed:
     return Failed(text, fact.field, free, fitting, none, offers=free)
 
 
-def not_in_use(case: Case, fact: Fact) -> Failed:
+def missing(case: Case, fact: Fact) -> Failed:
     """8: a label's container is not in use."""
     value = case.value(fact)
     state_of_it = "live" if value in limits.PROCESS_CONTAINERS else "in use"
@@ -306,7 +306,7 @@ WORDINGS: Dict[Refusal, Callable[[Case, Fact], Failed]] = {
     Refusal.OUT_OF_RANGE: out_of_range,
     Refusal.DEAD_PROCESS: dead_process,
     Refusal.TAKEN: taken,
-    Refusal.NOT_IN_USE: not_in_use,
+    Refusal.MISSING: missing,
     Refusal.DESCRIPTOR_CLOSED: descriptor_closed,
     Refusal.NAME_UNBOUND: name_unbound,
     Refusal.NO_LINK: no_link,

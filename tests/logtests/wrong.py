@@ -63,12 +63,12 @@ def exit_process(state, call):
 tracker.EFFECTS[Kind.EXIT] = exit_process
 """,
     "answers 8 whatever is missing": """
-tracker.MISSING = dict.fromkeys(tracker.MISSING, Refusal.NOT_IN_USE)
+tracker.LACKED = dict.fromkeys(tracker.LACKED, Refusal.MISSING)
 """,
     "answers what is missing before what is taken": """
 right_first = tracker.first_refusal
 def first_refusal(numbers):
-    missing = numbers & set(tracker.MISSING.values())
+    missing = numbers & set(tracker.LACKED.values())
     later = numbers - {Refusal.TAKEN} if missing else numbers
     return right_first(later)
 tracker.first_refusal = first_refusal

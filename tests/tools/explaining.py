@@ -202,14 +202,14 @@ REFUSED = [
     (
         FILE + "label container=25 item=1",
         [
-            "refused 8 (not in use)",
+            "refused 8 (missing)",
             "container 25 is not in use; containers in use are 0 to 8, 24",
             "no earlier record brought it into use",
         ],
     ),
     (
         FILE + "label container=process5 item=1",
-        ["refused 8 (not in use)", "process 5 is not live; containers in use are"],
+        ["refused 8 (missing)", "process 5 is not live; containers in use are"],
     ),
     (
         FILE + "unlink 0 name=5\nclose 0 descriptor=0\nlabel container=24 item=1",

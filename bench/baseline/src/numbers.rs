@@ -11,7 +11,7 @@ pub enum Refusal {
     OutOfRange = 5,
     DeadProcess = 6,
     Taken = 7,
-    NotInUse = 8,
+    Missing = 8,
     DescriptorClosed = 14,
     NameUnbound = 15,
     NoLink = 16,

@@ -161,21 +161,21 @@ tests-in-place = (
   λ s r. stand-at _ _ (rule-stands s r),
 )
 
--- all of its tests, at places that rise
-abbrev Placed : List Test → Type 0
-Placed ts = (ms : List ℕ) × (climbs 3 ms ≡ true) × StandAt ms ts
+-- tests at places that rise, from k on
+abbrev Placed : ℕ → List Test → Type 0
+Placed k ts = (ms : List ℕ) × (climbs k ms ≡ true) × StandAt ms ts
 
-content-placed : (s : State) (bytes : List ℕ) → Placed (testsOf s (contentOf bytes))
+content-placed : (s : State) (bytes : List ℕ) → Placed 3 (testsOf s (contentOf bytes))
 unfolding contentOf testsOf climbs placeOf places placeIn isIn
 content-placed s bytes =
-    choice (λ x. Placed (testsOf s x)) (eqb (tagOf bytes) callTag) (aCall (callIn (valueOf bytes))) (aRule (ruleIn (tagOf bytes) (valueOf bytes)))
+    choice (λ x. Placed 3 (testsOf s x)) (eqb (tagOf bytes) callTag) (aCall (callIn (valueOf bytes))) (aRule (ruleIn (tagOf bytes) (valueOf bytes)))
     (λ e. of-call (callIn (valueOf bytes))) (λ e. (_, refl, stand-at _ _ (rule-stands s (ruleIn (tagOf bytes) (valueOf bytes)))))
   where
-    of-call : (q : Option Call) → Placed (callTests (s .tables) q)
+    of-call : (q : Option Call) → Placed 3 (callTests (s .tables) q)
     of-call none = (_, refl, stand-at _ _ (unknown-stands (s .tables)))
     of-call (some q) = (_, refl, stand-at _ _ (call-stands (s .tables) q))
 
-tests-placed : (s : State) (bytes : List ℕ) → (ms : List ℕ) × (climbs 0 ms ≡ true) × StandAt ms (recordTests s bytes)
+tests-placed : (s : State) (bytes : List ℕ) → Placed 0 (recordTests s bytes)
 unfolding recordTests frameTests StandAt climbs placeOf places placeIn isIn
 tests-placed s bytes =
     let f = stand-at _ _ (frame-stands bytes) in
@@ -226,6 +226,7 @@ call-lacks t q n at e = go (first-applies (callTests t (some q)) n e)
     go (later-test (later-test (later-test (later-test (this-test e))))) = not-here _ 9 (λ h. let y : ⊥ = omega arith in y) e
     go (later-test (later-test (later-test (later-test (later-test (this-test e)))))) = not-here _ 10 (λ h. let y : ⊥ = omega arith in y) e
 
+-- the number is another
 other : {n m : ℕ} {A B P : Type 0} → eqb n m ≡ false → n ≡ m → A → B → P
 other d e a b = no-both (eq-eqb _ _ e) d
 

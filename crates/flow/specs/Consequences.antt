@@ -36,7 +36,7 @@ pub data Applies (m : ℕ) : List Test → Type 0 where
   this-test : {t : Test} {ts : List Test} → t ≡ some m → Applies m (t ∷ ts)
   later-test : {t : Test} {ts : List Test} → Applies m ts → Applies m (t ∷ ts)
 
--- 02, Paper 2: the places of the tests of a record, each with its numbers
+-- 02, Paper 2: the places of the tests of a record, each with its numbers (13 is a query's)
 unfoldable pub places : List (List ℕ)
 places =
     (1 ∷ [])
@@ -53,7 +53,7 @@ places =
     ∷ (12 ∷ [])
     ∷ []
 
--- how many places come before that of n
+-- how many places come before that of n; all of them where it has none
 unfoldable pub placeIn : List (List ℕ) → ℕ → ℕ
 placeIn [] n = 0
 placeIn (l ∷ ls) n = elim (isIn n l) [ true ↦ 0 | false ↦ suc (placeIn ls n) ]
@@ -86,7 +86,7 @@ OneOfAPlace =
     (s : State) (bytes : List ℕ) (n m : ℕ)
     → Applies n (recordTests s bytes) → Applies m (recordTests s bytes) → placeOf n ≡ placeOf m → n ≡ m
 
--- 02, Paper 2: the number tells what a call lacked
+-- 02, Paper 2: the number tells what a call lacked. No other record gets one of these numbers (TestsInPlace).
 unfoldable pub NumberTells : Type 0
 NumberTells =
     (s : State) (bytes : List ℕ) (q : Call) → callOf bytes ≡ some q

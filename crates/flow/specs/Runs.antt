@@ -216,13 +216,14 @@ HoldersAsked = map replied asked ≡ asked
 -- ---- 02, Paper 2: which thing was missing
 unfoldable pub lacking : List Check
 lacking =
-    -- the number tells which: descriptor 3 is closed, name 3 unbound, 24 not mapped, 24 not in use
+    -- each kind that needs something: descriptor 3 is closed, name 3 unbound, 24 not mapped, 24 not in use
     check
-    (call start 0 0 0 0 ++ call read 0 3 0 0 ++ call openName 0 3 3 0 ++ call unmap 0 24 0 0 ++ call label 0 24 3 0)
-    (allow ∷ refused 14 ∷ refused 15 ∷ refused 16 ∷ refused 8 ∷ [])
+    (call start 0 0 0 0 ++ call dup 0 3 4 0 ++ call close 0 3 0 0 ++ call read 0 3 0 0 ++ call write 0 3 0 0 ++ call truncate 0 3 0 0 ++ call mapRead 0 3 0 0 ++ call mapBoth 0 3 0 0 ++ call openName 0 3 3 0 ++ call unlink 0 3 0 0 ++ call rename 0 3 4 0 ++ call link 0 3 4 0 ++ call unmap 0 24 0 0 ++ call label 0 24 3 0)
+    (allowed 1 ++ table 7 (λ k. refused 14) ++ table 4 (λ k. refused 15) ++ refused 16 ∷ refused 8 ∷ [])
     []
-    -- the earliest place decides. Dup of a closed descriptor onto an open one is 7, onto a closed one 14, even onto itself; a pipe's two may not
-    -- be equal, and that is 9; truncate of a closed descriptor is 14, of a device 10; link of an unbound name onto a bound one is 7
+    -- the earliest place decides. Dup of a closed descriptor onto an open one is 7, onto a closed one 14, even onto itself; a pipe with one
+    -- descriptor twice is 9 where it is closed, 7 where it is open; truncate of a closed descriptor is 14, of a device 10; link of an unbound
+    -- name onto a bound one is 7, onto itself 15
     ∷ check
     (call start 0 0 0 0 ++ call device 0 1 2 0 ++ call dup 0 3 1 0 ++ call dup 0 3 4 0 ++ call dup 0 3 3 0 ++ call pipe 0 3 3 24 ++ call pipe 0 1 1 24 ++ call truncate 0 3 0 0 ++ call truncate 0 1 0 0 ++ call create 0 5 0 24 ++ call link 0 3 5 0 ++ call link 0 3 3 0)
     (allow ∷ allow ∷ refused 7 ∷ refused 14 ∷ refused 14 ∷ refused 9 ∷ refused 7 ∷ refused 14 ∷ refused 10 ∷ allow ∷ refused 7 ∷ refused 15 ∷ [])

@@ -1,4 +1,5 @@
-// The table of refusals (document 01, What a record gets): the tests 4 to 10 of a call, each by a row of its own.
+// The table of refusals (document 01, What a record gets; document 02, Paper 2): the tests 4 to 10 of a call, with 14 to 16 in 8's place,
+// each place by a row of its own.
 mod dead;
 mod missing;
 mod no_file;
@@ -64,7 +65,7 @@ fn fits(kind: u8, q: Call) -> bool
     }
 }
 
-// The first of the tests 4 to 10 that holds of a call of this kind, or 0.
+// The first of these tests that holds of a call of this kind, or 0.
 fn first(words: &[u64; 97], descriptors: &[u8; 512], names: &[u8; 128], kind: u8, q: Call) -> u8
     ensures { λ r. ⌜ refusalFrom r ≡ firstThat (callTests (mapsBefore words descriptors names .tables) (callAt q (kindOf kind))) ⌝ }
 {

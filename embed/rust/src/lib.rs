@@ -36,7 +36,7 @@ impl Refusal {
     /// What is to be new is there already: a process, a descriptor, a name or a container.
     pub const TAKEN: Refusal = Refusal(7);
     /// A label's container is not in use. The next three stand in the same place.
-    pub const NOT_IN_USE: Refusal = Refusal(8);
+    pub const MISSING: Refusal = Refusal(8);
     /// The descriptor is closed (kinds 6 to 12).
     pub const DESCRIPTOR_CLOSED: Refusal = Refusal(14);
     /// The name is unbound (kinds 2, 14, 15 and 16).

@@ -143,7 +143,7 @@ fn the_number_tells_what_was_missing() {
     let unbound = [2, 14, 15, 16].map(|kind| (call(kind, 6, if kind == 14 { 0 } else { 7 }, 0), Refusal::NAME_UNBOUND));
     let others = [
         (call(13, 24, 0, 0), Refusal::NO_LINK),
-        (call(19, 25, 0, 0), Refusal::NOT_IN_USE),
+        (call(19, 25, 0, 0), Refusal::MISSING),
         // The earliest place decides.
         (call(6, 3, 0, 0), Refusal::TAKEN),
         (call(2, 6, 0, 0), Refusal::TAKEN),

@@ -24,7 +24,7 @@ impl State {
                 changing(Change::Start(process))
             }
             Call::Label(container, item) => {
-                refuse_if(!self.in_use(container), Refusal::NotInUse)?;
+                refuse_if(!self.in_use(container), Refusal::Missing)?;
                 giving(self.gift(Set::only(item.index()), container))
             }
             Call::By(process, act) => {

@@ -21,7 +21,7 @@ use Rattle.tracker.proofs.rows.missing.holds.Tie as tie
 abbrev row : tie.Start → Option Kind → Test
 row c = missingAt (view (c .args .words .now) (c .args .descriptors .now) (c .args .names .now) .tables) (c .args .q)
 
--- the number as a test
+-- the number as a test; it is one more than n, and so not 0
 as-test : (there : Bool) (n : ℕ) → refusalFrom (numberUnless there (suc n)) ≡ (not there ⇒ suc n)
 unfolding refusalFrom numberUnless _⇒_
 as-test true n = refl
