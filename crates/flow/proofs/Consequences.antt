@@ -12,14 +12,14 @@ use Rattle.flow.specs.Lists.{firstThat, isNone}
 use Rattle.flow.specs.Box.{Rule, State, holds}
 use Rattle.flow.specs.Calls.{Call, Change, change, after}
 use Rattle.flow.specs.Rules.{Numbered, lowestBroken}
-use Rattle.flow.specs.Records.{Reading, unreadable, aCall, aRule, reading, callOf, recordsOf}
+use Rattle.flow.specs.Records.{Reading, unreadable, aCall, aRule, reading, callRead, callOf, recordsOf}
 use Rattle.flow.specs.Refusals.{callTests, testsOf, refusal}
 use Rattle.flow.specs.Verdicts.{Outcome, refuses, loads, allows, inhibits, modifies, diversion, mayDivert, breaksNone, stopped, verdictBy, verdict, outcomeOfCall, outcomeOfRule, outcomeOf, outcome, refused, rule, allow, inhibit, answerOf, answer, stateAfter, next, answerAll, runLog}
 use Rattle.flow.specs.Contents.{Step, entry, memory, stepState, stateAt}
 use Rattle.flow.specs.Consequences.{PassedBreaksNone, VerdictExactly, NoGainAllowed, StoppedKeeps, OneAnswerEach, AnswersInOrder, LogIsSteps}
 use Rattle.flow.proofs.Bools.{choice}
 use Rattle.flow.proofs.TableLaws.{none-is}
-use Rattle.flow.proofs.Refused.{read-call, refusal-read}
+use Rattle.flow.proofs.Refused.{refusal-read}
 use Rattle.flow.proofs.Judging.{none-broken}
 
 -- ---- no rule is broken after a change
@@ -66,6 +66,12 @@ unfolding PassedBreaksNone outcome Whole
 passed-breaks-none s bytes x = (λ e. rw e at (read-whole s (reading bytes)), λ n c e. rw e at (read-whole s (reading bytes)))
 
 -- ---- the verdict
+read-call : (x : Reading) (q : Call) → callRead x ≡ some q → x ≡ aCall (some q)
+unfolding callRead
+read-call (unreadable n) q e = absurd (let z : _≡_ {A = ℕ} 0 1 = cc in let y : ⊥ = omega arith in y)
+read-call (aCall o) q e = ap aCall e
+read-call (aRule r) q e = absurd (let z : _≡_ {A = ℕ} 0 1 = cc in let y : ⊥ = omega arith in y)
+
 -- a call that is not refused gets its verdict
 pub call-verdict : (s : State) (bytes : List ℕ) (q : Call) → refusal s bytes ≡ none → callOf bytes ≡ some q → outcome s bytes ≡ verdict s q
 unfolding callOf outcome outcomeOf outcomeOfCall testsOf

@@ -3,7 +3,7 @@ use Prim.Native.Nat.{ℕ, zero, suc, _≤_, _<_}
 use native.Mathlib.Nat.{le-refl}
 use native.Mathlib.Omega.{arith}
 use mathlib.Core.Path.{_≡_, refl, sym, ap, _∙_}
-use mathlib.Core.Bool.{Bool, true, false, _&&_, _||_}
+use mathlib.Core.Bool.{Bool, true, false, not, _&&_, _||_}
 use mathlib.Core.List.{List, [], _∷_}
 use mathlib.Core.Option.{Option, none, some}
 use lib.Dec.{leb, eqb}
@@ -14,13 +14,13 @@ use Rattle.flow.specs.Lists.{isIn, Test, _⇒_, firstThat}
 use Rattle.flow.specs.Box.{Rule, Tables, State, feedersOf, feeds, isOpen, isBound}
 use Rattle.flow.specs.Links.{used}
 use Rattle.flow.specs.Calls.{Call}
-use Rattle.flow.specs.Records.{tagOf, callTag, valueOf, callIn, ruleIn, aCall, aRule, frameTests, contentOf, reading, callOf}
+use Rattle.flow.specs.Records.{tagOf, callTag, valueOf, callIn, ruleIn, aCall, aRule, frameTests, contentOf, readingBy, reading, callRead, callOf}
 use Rattle.flow.specs.Refusals.{Need, noNeed, openDescriptor, boundName, aLink, usedContainer, needOf, missing, callTests, fieldTests, ruleTests, testsOf, recordTests, refusal}
 use Rattle.flow.specs.Verdicts.{refused, answer}
-use Rattle.flow.specs.Consequences.{RefusedExactly, FirstDecides, Applies, this-test, later-test, places, placeIn, placeOf, StandAt, TestsInPlace, EarliestPlace, OneOfAPlace, NumberTells}
+use Rattle.flow.specs.Consequences.{RefusedExactly, FirstDecides, Applies, this-test, later-test, places, placeIn, placeOf, StandAt, TestsInPlace, EarliestPlace, OneOfAPlace, Lacks, NumberTells}
 use Rattle.flow.proofs.Bools.{and-l, and-r, no-both, choice}
-use Rattle.flow.proofs.TableLaws.{holding}
-use Rattle.flow.proofs.Refused.{read-call, refusal-read, refused-exactly}
+use Rattle.flow.proofs.TableLaws.{first-some, first-none, holding}
+use Rattle.flow.proofs.Refused.{refused-exactly}
 
 -- ---- the first test of a list
 first-at : (ts : List Test) (n : ℕ) → firstThat ts ≡ some n → (k : ℕ) × (getD ts k none ≡ some n) × ((j : ℕ) → j < k → getD ts j none ≡ none)
@@ -166,19 +166,19 @@ abbrev Placed : ℕ → List Test → Type 0
 Placed k ts = (ms : List ℕ) × (climbs k ms ≡ true) × StandAt ms ts
 
 content-placed : (s : State) (bytes : List ℕ) → Placed 3 (testsOf s (contentOf bytes))
-unfolding contentOf testsOf climbs placeOf places placeIn isIn
+unfolding TestsInPlace contentOf testsOf climbs placeOf places placeIn isIn
 content-placed s bytes =
     choice (λ x. Placed 3 (testsOf s x)) (eqb (tagOf bytes) callTag) (aCall (callIn (valueOf bytes))) (aRule (ruleIn (tagOf bytes) (valueOf bytes)))
-    (λ e. of-call (callIn (valueOf bytes))) (λ e. (_, refl, stand-at _ _ (rule-stands s (ruleIn (tagOf bytes) (valueOf bytes)))))
+    (λ e. of-call (callIn (valueOf bytes))) (λ e. (_, refl, tests-in-place .3 s (ruleIn (tagOf bytes) (valueOf bytes))))
   where
     of-call : (q : Option Call) → Placed 3 (callTests (s .tables) q)
-    of-call none = (_, refl, stand-at _ _ (unknown-stands (s .tables)))
-    of-call (some q) = (_, refl, stand-at _ _ (call-stands (s .tables) q))
+    of-call none = (_, refl, tests-in-place .2 (s .tables))
+    of-call (some q) = (_, refl, tests-in-place .1 (s .tables) q)
 
 tests-placed : (s : State) (bytes : List ℕ) → Placed 0 (recordTests s bytes)
-unfolding recordTests frameTests StandAt climbs placeOf places placeIn isIn
+unfolding TestsInPlace recordTests frameTests StandAt climbs placeOf places placeIn isIn
 tests-placed s bytes =
-    let f = stand-at _ _ (frame-stands bytes) in
+    let f = tests-in-place .0 bytes in
     let c = content-placed s bytes in
     (1 ∷ 2 ∷ 3 ∷ c .0, c .1, (f .0, (f .1 .0, (f .1 .1 .0, c .2))))
 
@@ -226,20 +226,58 @@ call-lacks t q n at e = go (first-applies (callTests t (some q)) n e)
     go (later-test (later-test (later-test (later-test (this-test e))))) = not-here _ 9 (λ h. let y : ⊥ = omega arith in y) e
     go (later-test (later-test (later-test (later-test (later-test (this-test e)))))) = not-here _ 10 (λ h. let y : ⊥ = omega arith in y) e
 
+-- none of the numbers has the place p
+away : ℕ → List ℕ → Bool
+away p [] = true
+away p (m ∷ ms) = not (eqb p (placeOf m)) && away p ms
+
+elsewhere : (n p : ℕ) (ms : List ℕ) (ts : List Test) → StandAt ms ts → firstThat ts ≡ some n → placeOf n ≡ p → away p ms ≡ true → ⊥
+unfolding StandAt firstThat away
+elsewhere n p [] [] c e d a = absurd (let z : _≡_ {A = ℕ} 0 1 = cc in let y : ⊥ = omega arith in y)
+elsewhere n p (m ∷ ms) (some k ∷ ts) c e d a = no-both (eq-eqb p (placeOf m) (sym d ∙ c .0 n e)) (not-true (eqb p (placeOf m)) (and-l _ (away p ms) a))
+elsewhere n p (m ∷ ms) (none ∷ ts) c e d a = elsewhere n p ms ts (c .1) e d (and-r (not (eqb p (placeOf m))) _ a)
+elsewhere n p [] (t ∷ ts) c e d a = absurd c
+elsewhere n p (m ∷ ms) [] c e d a = absurd c
+
+-- a record that is refused with one of them is a call that lacks what it needs
+record-lacks : (s : State) (bytes : List ℕ) (n : ℕ) → placeOf n ≡ placeOf 8 → answer s bytes ≡ refused n
+    → (q : Call) × (callOf bytes ≡ some q) × (missing (s .tables) (q .process) (q .a) (needOf (q .kind)) ≡ some n)
+unfolding RefusedExactly TestsInPlace refusal recordTests reading readingBy callOf callRead contentOf testsOf away placeOf places placeIn isIn
+record-lacks s bytes n at e = of-frame (firstThat (frameTests bytes)) refl
+  where
+    Found : Type 0
+    Found = (q : Call) × (callRead (reading bytes) ≡ some q) × (missing (s .tables) (q .process) (q .a) (needOf (q .kind)) ≡ some n)
+
+    refuses : refusal s bytes ≡ some n
+    refuses = refused-exactly s bytes n .0 e
+
+    of-call : (o : Option Call) → reading bytes ≡ aCall o → firstThat (callTests (s .tables) o) ≡ some n → Found
+    of-call none r g = absurd (elsewhere n 7 (4 ∷ []) _ (tests-in-place .2 (s .tables)) g at refl)
+    of-call (some q) r g = (q, rw r refl, call-lacks (s .tables) q n at g)
+
+    of-content : reading bytes ≡ contentOf bytes → firstThat (testsOf s (contentOf bytes)) ≡ some n → Found
+    of-content =
+        choice (λ x. reading bytes ≡ x → firstThat (testsOf s x) ≡ some n → Found) (eqb (tagOf bytes) callTag) (aCall (callIn (valueOf bytes))) (aRule (ruleIn (tagOf bytes) (valueOf bytes)))
+        (λ d. of-call (callIn (valueOf bytes)))
+        (λ d r g. absurd (elsewhere n 7 (4 ∷ 5 ∷ 9 ∷ 11 ∷ 12 ∷ []) _ (tests-in-place .3 s _) g at refl))
+
+    of-frame : (o : Option ℕ) → firstThat (frameTests bytes) ≡ o → Found
+    of-frame none f = of-content (ap (readingBy bytes) f) (sym (first-none (frameTests bytes) (testsOf s (contentOf bytes)) f) ∙ refuses)
+    of-frame (some k) f =
+        let g = first-some (frameTests bytes) (testsOf s (contentOf bytes)) k f in
+        let w : _≡_ {A = Option ℕ} (some n) (some k) = sym refuses ∙ g in
+        let d : n ≡ k = cc in
+        absurd (elsewhere k 7 (1 ∷ 2 ∷ 3 ∷ []) _ (tests-in-place .0 bytes) f (ap placeOf (sym d) ∙ at) refl)
+
 -- the number is another
 other : {n m : ℕ} {A B P : Type 0} → eqb n m ≡ false → n ≡ m → A → B → P
 other d e a b = no-both (eq-eqb _ _ e) d
 
 pub number-tells : NumberTells
-unfolding NumberTells callOf testsOf RefusedExactly placeOf places placeIn isIn
-number-tells s bytes q f = (
-  λ e. need-cases (s .tables) (q .process) (q .a) (needOf (q .kind)) 14 (lacks 14 refl e) (λ n y z. (y, z)) (other refl) (other refl) (other refl),
-  λ e. need-cases (s .tables) (q .process) (q .a) (needOf (q .kind)) 15 (lacks 15 refl e) (other refl) (λ n y z. (y, z)) (other refl) (other refl),
-  λ e. need-cases (s .tables) (q .process) (q .a) (needOf (q .kind)) 16 (lacks 16 refl e) (other refl) (other refl) (λ n y z. (y, z)) (other refl),
-  λ e. need-cases (s .tables) (q .process) (q .a) (needOf (q .kind)) 8 (lacks 8 refl e) (other refl) (other refl) (other refl) (λ n y z. (y, z)),
+unfolding NumberTells Lacks placeOf places placeIn isIn
+number-tells s bytes = (
+  λ e. let h = record-lacks s bytes 14 refl e in let q = h .0 in need-cases (s .tables) (q .process) (q .a) (needOf (q .kind)) 14 (h .2) (λ n y z. (q, h .1, y, z)) (other refl) (other refl) (other refl),
+  λ e. let h = record-lacks s bytes 15 refl e in let q = h .0 in need-cases (s .tables) (q .process) (q .a) (needOf (q .kind)) 15 (h .2) (other refl) (λ n y z. (q, h .1, y, z)) (other refl) (other refl),
+  λ e. let h = record-lacks s bytes 16 refl e in let q = h .0 in need-cases (s .tables) (q .process) (q .a) (needOf (q .kind)) 16 (h .2) (other refl) (other refl) (λ n y z. (q, h .1, y, z)) (other refl),
+  λ e. let h = record-lacks s bytes 8 refl e in let q = h .0 in need-cases (s .tables) (q .process) (q .a) (needOf (q .kind)) 8 (h .2) (other refl) (other refl) (other refl) (λ n y z. (q, h .1, y, z)),
 )
-  where
-    lacks : (n : ℕ) → placeOf n ≡ placeOf 8 → answer s bytes ≡ refused n → missing (s .tables) (q .process) (q .a) (needOf (q .kind)) ≡ some n
-    lacks n at e =
-        let h : firstThat (testsOf s (reading bytes)) ≡ some n = sym (refusal-read s bytes) ∙ refused-exactly s bytes n .0 e in
-        call-lacks (s .tables) q n at (rw (read-call (reading bytes) q f) at h)

@@ -1,7 +1,7 @@
 -- A record is refused exactly when a test of its list holds, with the number of the first that does.
 use Prim.Native.Nat.{ℕ}
 use native.Mathlib.Omega.{arith}
-use mathlib.Core.Path.{_≡_, refl, ap}
+use mathlib.Core.Path.{_≡_, refl}
 use mathlib.Core.Logic.{_↔_}
 use mathlib.Core.List.{List, _++_}
 use mathlib.Core.Option.{Option, none, some}
@@ -9,7 +9,7 @@ use Rattle.flow.specs.Lists.{firstThat}
 use Rattle.flow.specs.Box.{Rule, State}
 use Rattle.flow.specs.Calls.{Call, change, after}
 use Rattle.flow.specs.Rules.{Numbered, lowestBroken}
-use Rattle.flow.specs.Records.{Reading, unreadable, aCall, aRule, frameTests, contentOf, readingBy, reading, callRead}
+use Rattle.flow.specs.Records.{Reading, unreadable, aCall, aRule, frameTests, contentOf, readingBy, reading}
 use Rattle.flow.specs.Refusals.{callTests, testsOf, recordTests, refusal}
 use Rattle.flow.specs.Verdicts.{Outcome, refuses, loads, allows, inhibits, modifies, diversion, mayDivert, breaksNone, stopped, verdictBy, verdict, outcomeOfCall, outcomeOfRule, outcomeOf, outcome, refused, answerOf, answer}
 use Rattle.flow.specs.Consequences.{RefusedExactly}
@@ -54,12 +54,6 @@ refused-rule s r none n = (λ d. cc, λ d. cc)
 refused-rule s r (some k) n = (λ d. cc, λ d. cc)
 
 -- by what was read
-pub read-call : (x : Reading) (q : Call) → callRead x ≡ some q → x ≡ aCall (some q)
-unfolding callRead
-read-call (unreadable n) q e = absurd (let z : _≡_ {A = ℕ} 0 1 = cc in let y : ⊥ = omega arith in y)
-read-call (aCall o) q e = ap aCall e
-read-call (aRule r) q e = absurd (let z : _≡_ {A = ℕ} 0 1 = cc in let y : ⊥ = omega arith in y)
-
 refused-read : (s : State) (x : Reading) (n : ℕ) → answerOf (outcomeOf s x) ≡ refused n ↔ firstThat (testsOf s x) ≡ some n
 unfolding outcomeOf answerOf testsOf firstThat
 refused-read s (unreadable k) n = (λ d. cc, λ d. cc)

@@ -15,7 +15,7 @@ use Rattle.flow.specs.Links.{linked, used}
 use Rattle.flow.specs.Calls.{Kind, fork, kindNumber, Call, Change, change, after}
 use Rattle.flow.specs.Rules.{broken, Numbered, lowestBroken}
 use Rattle.flow.specs.Records.{recordLength, kindOf, frameTests, callOf, recordsOf}
-use Rattle.flow.specs.Refusals.{openDescriptor, boundName, aLink, usedContainer, needOf, callTests, ruleTests, recordTests, refusal}
+use Rattle.flow.specs.Refusals.{Need, openDescriptor, boundName, aLink, usedContainer, needOf, callTests, ruleTests, recordTests, refusal}
 use Rattle.flow.specs.Verdicts.{allows, inhibits, modifies, diversion, mayDivert, breaksNone, outcome, refused, allow, inhibit, answer, next, answerAll, runLog}
 use Rattle.flow.specs.Queries.{Reply, refuse, result, holders, holdersQuery, holdersSlice}
 use Rattle.flow.specs.Contents.{Step, entry, stateAt}
@@ -86,16 +86,19 @@ OneOfAPlace =
     (s : State) (bytes : List ℕ) (n m : ℕ)
     → Applies n (recordTests s bytes) → Applies m (recordTests s bytes) → placeOf n ≡ placeOf m → n ≡ m
 
--- 02, Paper 2: the number tells what a call lacked. No other record gets one of these numbers (TestsInPlace).
+-- the record is a call that needs x, and P holds of it
+unfoldable pub Lacks : List ℕ → Need → (Call → Type 0) → Type 0
+Lacks bytes x P = (q : Call) × (callOf bytes ≡ some q) × (needOf (q .kind) ≡ x) × P q
+
+-- 02, Paper 2: the number tells what was missing
 unfoldable pub NumberTells : Type 0
 NumberTells =
-    (s : State) (bytes : List ℕ) (q : Call) → callOf bytes ≡ some q
+    (s : State) (bytes : List ℕ)
     → (let t = s .tables in
-    let need = needOf (q .kind) in
-    (answer s bytes ≡ refused 14 → (need ≡ openDescriptor) × (isOpen t (q .process) (q .a) ≡ false))
-    × (answer s bytes ≡ refused 15 → (need ≡ boundName) × (isBound t (q .a) ≡ false))
-    × (answer s bytes ≡ refused 16 → (need ≡ aLink) × ((has (feedersOf t (q .process)) (q .a) || has (feeds t (q .process)) (q .a)) ≡ false))
-    × (answer s bytes ≡ refused 8 → (need ≡ usedContainer) × (used t (q .a) ≡ false)))
+    (answer s bytes ≡ refused 14 → Lacks bytes openDescriptor (λ q. isOpen t (q .process) (q .a) ≡ false))
+    × (answer s bytes ≡ refused 15 → Lacks bytes boundName (λ q. isBound t (q .a) ≡ false))
+    × (answer s bytes ≡ refused 16 → Lacks bytes aLink (λ q. (has (feedersOf t (q .process)) (q .a) || has (feeds t (q .process)) (q .a)) ≡ false))
+    × (answer s bytes ≡ refused 8 → Lacks bytes usedContainer (λ q. used t (q .a) ≡ false)))
 
 -- each kind has its number, and no other number is known
 unfoldable pub KindsNumbered : Type 0
