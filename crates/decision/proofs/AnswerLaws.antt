@@ -2,18 +2,17 @@
 use Prim.Native.Nat.{ℕ}
 use native.Mathlib.Omega.{arith}
 use mathlib.Core.Path.{_≡_, refl, sym, ap, subst, _∙_}
-use mathlib.Core.Bool.{false}
 use mathlib.Core.List.{List}
 use mathlib.Core.Option.{Option, none, some}
 use lib.ListN.{length}
 use Rattle.flow.specs.Lists.{firstThat}
 use Rattle.flow.specs.Box.{Rule, State, holds, itemsOf}
 use Rattle.flow.specs.Calls.{Call, Change, change, after}
-use Rattle.flow.specs.Rules.{broken, lowestBroken}
+use Rattle.flow.specs.Rules.{lowestBroken}
 use Rattle.flow.specs.Records.{Reading, unreadable, aCall, aRule, reading}
-use Rattle.flow.specs.Refusals.{callTests, fieldTests, ruleTests, testsOf}
+use Rattle.flow.specs.Refusals.{callTests, ruleTests, testsOf}
 use Rattle.flow.specs.Verdicts.{refuses, loads, allows, inhibits, modifies, verdictBy, verdict, stopped, outcomeOfCall, outcomeOfRule, outcomeOf, answerOf, withRule, stateAfter}
-use Rattle.flow.proofs.TableLaws.{AllNone, all-none, untrue}
+use Rattle.flow.proofs.Outcomes.{accepted-rule}
 use Rattle.flow.proofs.Judging.{none-broken, one-more}
 use Rattle.records.specs.declared.Record.{Record}
 use Rattle.records.specs.Reading.{readingOf}
@@ -102,13 +101,9 @@ module _ (m : Monitor) (q : Call) (e : firstThat (callTests (view m .tables) (so
 
 -- ---- a rule
 module _ (m t : Monitor) (r : Rule) (e : firstThat (ruleTests (view m) r) ≡ none) where
-  unbroken : broken (view m) r ≡ false
-  unfolding ruleTests fieldTests AllNone
-  unbroken = untrue _ 12 (all-none (ruleTests (view m) r) e .1 .1 .1 .1 .0)
-
   loaded-sound : view t ≡ withRule (view m) r → Sound m → Sound t
   unfolding Sound lowestBroken withRule holds itemsOf
-  loaded-sound v h = ap lowestBroken v ∙ none-broken (withRule (view m) r) (view m) (λ c i l d. d) 0 _ (one-more (view m) 0 (view m .rules) r h unbroken)
+  loaded-sound v h = ap lowestBroken v ∙ none-broken (withRule (view m) r) (view m) (λ c i l d. d) 0 _ (one-more (view m) 0 (view m .rules) r h (accepted-rule (view m) r e .0))
 
   pub loaded-as : (n : ℕ) → n ≡ length (view m .rules) → view t ≡ withRule (view m) r → Answers m (aRule r) (record { answer = Loaded n; monitor = t })
   unfolding wordOf answerOf stateAfter testsOf

@@ -9,7 +9,7 @@ use mathlib.Core.List.{List, [], _∷_}
 use mathlib.Core.Option.{Option, none, some}
 use lib.Dec.{eqb}
 use lib.ListN.{length, set, length-set, length-append}
-use borrow.Author.Tests.{ltb-true, leb-false, not-false}
+use borrow.Author.Tests.{ltb-true}
 use Rattle.sets.specs.Sets.{only, _∪_}
 use Rattle.sets.proofs.Members.{without-lt, only-lt, union-lt}
 use Rattle.flow.specs.Lists.{firstThat}
@@ -18,11 +18,13 @@ use Rattle.flow.specs.Calls.{Kind, start, openName, create, pipe, device, dup, 
 use Rattle.flow.specs.Rules.{broken, Numbered, firstBroken, lowestBroken}
 use Rattle.flow.specs.Records.{tagOf, callTag, valueOf, ruleIn, Reading, unreadable, aCall, aRule, frameTests, contentOf, readingBy, reading}
 use Rattle.flow.specs.Refusals.{inRange, ranges, fieldsFit, fieldTests, callTests, ruleTests}
+use Rattle.flow.specs.Kept.{wellFormed}
 use Rattle.flow.specs.Verdicts.{Outcome, refuses, loads, allows, inhibits, modifies, diversion, mayDivert, breaksNone, stopped, verdictBy, verdict, outcomeOfCall, outcomeOfRule, outcomeOf, answerOf, withRule, stateAfter}
 use Rattle.flow.proofs.Bools.{choice}
-use Rattle.flow.proofs.TableLaws.{AllNone, all-none, first-of-none, untrue}
+use Rattle.flow.proofs.TableLaws.{none-is}
 use Rattle.flow.proofs.Places.{frame-byte, call-byte, rule-byte}
-use Rattle.flow.proofs.Accepted.{fits-process, fits-a}
+use Rattle.flow.proofs.Accepted.{accepted, fits-process, fits-a}
+use Rattle.flow.proofs.Outcomes.{accepted-rule}
 use Rattle.rules.proofs.LoadingLaws.{fit-substitute}
 use Rattle.decision.specs.Logs.{inBytes}
 use Rattle.decision.proofs.CodeLaws.{answerIs}
@@ -141,21 +143,20 @@ module _ (Q : Rule → Type 0) where
     verdict-fits q (some x) h l = stopped-fits q (x .number) (x .rule) (l .0) (l .1)
 
     call-fits : (q : Option Call) (o : Option ℕ) → firstThat (callTests (s .tables) q) ≡ o → OutcomeFits s (outcomeOfCall s q o)
-    unfolding outcomeOfCall verdict OutcomeFits callTests AllNone lowestBroken after
+    unfolding outcomeOfCall verdict OutcomeFits lowestBroken after
     call-fits none none e = omega arith
     call-fits (some q) none e =
         let l : length (s .rules) ≤ 32 = ruled .counted in
-        verdict-fits q _ (not-false (fieldsFit (ranges (q .kind)) q) (untrue _ 5 (all-none (callTests (s .tables) (some q)) e .0)))
+        verdict-fits q _ (accepted (s .tables) q e .fits)
         (first-broken (after s (change (s .tables) q)) 0 (s .rules) (omega arith) (ruled .diverted))
     call-fits none (some n) e = call-byte (s .tables) none n e
     call-fits (some q) (some n) e = call-byte (s .tables) (some q) n e
 
     rule-fits : (r : Rule) (o : Option ℕ) → firstThat (ruleTests s r) ≡ o → Q r → OutcomeFits s (outcomeOfRule s r o)
-    unfolding outcomeOfRule OutcomeFits ruleTests fieldTests AllNone
+    unfolding outcomeOfRule OutcomeFits wellFormed
     rule-fits r none e f =
-        let h = all-none (ruleTests s r) e in
-        let l : length (s .rules) < 32 = leb-false 32 (length (s .rules)) (untrue _ 11 (h .1 .1 .1 .0)) in
-        (l, l, fit-substitute r (first-of-none (fieldTests r) (h .0, (h .1 .0, (h .1 .1 .0, tt)))), f)
+        let h = accepted-rule s r e in
+        (h .2, h .2, fit-substitute r (none-is (firstThat (fieldTests r)) (h .1)), f)
     rule-fits r (some n) e f = rule-byte s r n e
 
     pub outcome-fits : (y : Reading) → ReadingFits y → OutcomeFits s (outcomeOf s y)

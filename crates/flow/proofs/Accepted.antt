@@ -5,18 +5,19 @@ use mathlib.Core.Path.{_≡_, refl, sym, ap, _∙_}
 use mathlib.Core.Logic.{_⊎_, inl, inr}
 use mathlib.Core.Bool.{Bool, true, false, not, _&&_, _||_}
 use mathlib.Core.List.{List}
-use mathlib.Core.Option.{none}
+use mathlib.Core.Option.{none, some}
 use lib.Dec.{ltb}
 use lib.ListN.{set}
 use borrow.Author.Tests.{ltb-true, eqb-true, not-false}
 use Rattle.sets.specs.Sets.{has, only, without, _∪_}
 use Rattle.sets.proofs.Members.{union-has, only-has, none-has}
+use Rattle.flow.specs.Lists.{firstThat}
 use Rattle.flow.specs.Box.{containerOf, isTarget, Tables, feedersOf, feeds, descriptor, isLive, isOpen, isBound}
 use Rattle.flow.specs.Links.{linked, used, isFed}
 use Rattle.flow.specs.Calls.{Kind, start, openName, create, pipe, device, dup, close, read, write, truncate, mapRead, mapBoth, unmap, unlink, rename, link, fork, exit, label, kindNumber, Call, isKind, Flow, still, clear, withLive, withDescriptors, withNames, withLinks, tablesBy, flowBy}
-use Rattle.flow.specs.Refusals.{inRange, Ranges, ranges, fieldsFit, dead, taken, openDescriptor, needOf, missing}
+use Rattle.flow.specs.Refusals.{inRange, Ranges, ranges, fieldsFit, dead, taken, openDescriptor, needOf, missing, callTests}
 use Rattle.flow.proofs.Bools.{or-elim, and-l, and-r, or-false-r, by, no-both}
-use Rattle.flow.proofs.TableLaws.{none-of, untrue}
+use Rattle.flow.proofs.TableLaws.{none-of, AllNone, all-none, untrue}
 use Rattle.flow.proofs.Reach.{link-cases, link-in, link-out}
 use Rattle.flow.proofs.Rows.{target-lt, target-not, Row, Rows, row-none, row-add, less-elim, row-less, row-live, row-cases, rows-set, rows-more, more-live, now-live, still-live}
 use Rattle.flow.proofs.Use.{used-process, used-open, feeder-row, fed-row, linked-used}
@@ -29,6 +30,12 @@ pub record Accepted (s : Tables) (q : Call) : Type 0 where
   pub lives : dead s q ≡ false
   pub free : taken s (q .process) (q .a) (q .b) (q .c) (q .kind) ≡ false
   pub there : missing s (q .process) (q .a) (needOf (q .kind)) ≡ none
+
+pub accepted : (s : Tables) (q : Call) → firstThat (callTests s (some q)) ≡ none → Accepted s q
+unfolding callTests AllNone
+accepted s q e =
+    let h = all-none (callTests s (some q)) e in
+    record { fits = not-false (fieldsFit (ranges (q .kind)) q) (untrue _ 5 (h .0)); lives = untrue _ 6 (h .1 .0); free = untrue _ 7 (h .1 .1 .0); there = h .1 .1 .1 .0 }
 
 module _ (r : Ranges) (q : Call) (h : fieldsFit r q ≡ true) where
   pub fits-process : inRange (r .process) (q .process) ≡ true

@@ -27,7 +27,7 @@ use Rattle.flow.proofs.Judging.{lowest-in}
 use Rattle.flow.proofs.Rows.{target-lt}
 use Rattle.flow.proofs.Moves.{Fit}
 use Rattle.flow.proofs.After.{Linking}
-use Rattle.flow.proofs.Accepted.{Accepted, fits-process, linking-after, fits-after}
+use Rattle.flow.proofs.Accepted.{Accepted, accepted, fits-process, linking-after, fits-after}
 use Rattle.flow.proofs.Entries.{Entries, entries-after}
 use Rattle.flow.proofs.Blocks.{Quiet, quiet-after}
 
@@ -96,6 +96,16 @@ substitute-target r w e =
     let q : r .action ≡ 1 = eqb-true (r .action) 1 e in
     rw q at f
 
+-- what the tests say of a rule that is not refused
+pub accepted-rule : (s : State) (r : Rule) → firstThat (ruleTests s r) ≡ none → (broken s r ≡ false) × (wellFormed r ≡ true) × (length (s .rules) < 32)
+unfolding ruleTests fieldTests AllNone wellFormed isNone
+accepted-rule s r e =
+    let h = all-none (ruleTests s r) e in (
+      untrue _ 12 (h .1 .1 .1 .1 .0),
+      ap isNone (first-of-none (fieldTests r) (h .0, (h .1 .0, (h .1 .1 .0, tt)))),
+      leb-false 32 (length (s .rules)) (untrue _ 11 (h .1 .1 .1 .0)),
+    )
+
 module _ (s : State) (k : Linking (s .tables)) (t : Entries (s .tables)) (u : Quiet (s .tables)) where
   change-made : (q : Call) → Accepted (s .tables) q → lowestBroken (after s (change (s .tables) q)) ≡ none → Made s (some q) (change (s .tables) q)
   unfolding change
@@ -143,28 +153,16 @@ module _ (s : State) (k : Linking (s .tables)) (t : Entries (s .tables)) (u : Qu
       stopped-sound q (x .number) (x .rule) h (broken-fits (after s (change (s .tables) q)) 0 (s .rules) x w (lowest-in (after s (change (s .tables) q)) 0 _ x e))
 
   -- ---- a record
-  accepted-call : (q : Call) → AllNone (callTests (s .tables) (some q)) → Accepted (s .tables) q
-  unfolding callTests AllNone
-  accepted-call q h = record { fits = not-false (fieldsFit (ranges (q .kind)) q) (untrue _ 5 (h .0)); lives = untrue _ 6 (h .1 .0); free = untrue _ 7 (h .1 .1 .0); there = h .1 .1 .1 .0 }
-
-  accepted-rule : (r : Rule) → AllNone (ruleTests s r) → (broken s r ≡ false) × (wellFormed r ≡ true) × (length (s .rules) < 32)
-  unfolding ruleTests fieldTests AllNone wellFormed isNone
-  accepted-rule r h = (
-    untrue _ 12 (h .1 .1 .1 .1 .0),
-    ap isNone (first-of-none (fieldTests r) (h .0, (h .1 .0, (h .1 .1 .0, tt)))),
-    leb-false 32 (length (s .rules)) (untrue _ 11 (h .1 .1 .1 .0)),
-  )
-
   call-sound : (q : Option Call) (o : Option ℕ) → firstThat (callTests (s .tables) q) ≡ o → allWellFormed (s .rules) ≡ true → Sound s q (outcomeOfCall s q o)
   unfolding outcomeOfCall verdict Sound
   call-sound none none e w = tt
-  call-sound (some q) none e w = verdict-sound q _ (accepted-call q (all-none _ e)) refl w
+  call-sound (some q) none e w = verdict-sound q _ (accepted (s .tables) q e) refl w
   call-sound none (some n) e w = tt
   call-sound (some q) (some n) e w = tt
 
   rule-sound : (r : Rule) (o : Option ℕ) → firstThat (ruleTests s r) ≡ o → Sound s none (outcomeOfRule s r o)
   unfolding outcomeOfRule Sound
-  rule-sound r none e = accepted-rule r (all-none _ e)
+  rule-sound r none e = accepted-rule s r e
   rule-sound r (some n) e = tt
 
   reading-sound : (x : Reading) → allWellFormed (s .rules) ≡ true → Sound s (callRead x) (outcomeOf s x)

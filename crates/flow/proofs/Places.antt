@@ -4,7 +4,7 @@ use native.Mathlib.Nat.{le-refl}
 use native.Mathlib.Omega.{arith}
 use mathlib.Core.Path.{_≡_, refl, sym, ap, _∙_}
 use mathlib.Core.Bool.{Bool, true, false, not, _&&_, _||_}
-use mathlib.Core.List.{List, [], _∷_}
+use mathlib.Core.List.{List, [], _∷_, _++_}
 use mathlib.Core.Option.{Option, none, some}
 use lib.Dec.{leb, eqb}
 use lib.ListN.{getD}
@@ -203,29 +203,6 @@ unfolding OneOfAPlace
 one-of-a-place s bytes n m a b q = let c = tests-placed s bytes in one-of 0 n m (c .0) (recordTests s bytes) (c .1) (c .2) a b q
 
 -- ---- what the numbers of 8's place say
-first-applies : (ts : List Test) (n : ℕ) → firstThat ts ≡ some n → Applies n ts
-unfolding firstThat
-first-applies [] n e = absurd (let z : _≡_ {A = ℕ} 0 1 = cc in let y : ⊥ = omega arith in y)
-first-applies (some m ∷ ts) n e = this-test e
-first-applies (none ∷ ts) n e = later-test (first-applies ts n e)
-
--- a call that is refused with one of them lacks what it needs
-call-lacks : (t : Tables) (q : Call) (n : ℕ) → placeOf n ≡ placeOf 8 → firstThat (callTests t (some q)) ≡ some n → missing t (q .process) (q .a) (needOf (q .kind)) ≡ some n
-unfolding callTests placeOf places placeIn isIn
-call-lacks t q n at e = go (first-applies (callTests t (some q)) n e)
-  where
-    -- a test of a condition stands elsewhere
-    not-here : {P : Type 0} (b : Bool) (m : ℕ) → (placeOf m ≡ 7 → ⊥) → (b ⇒ m) ≡ some n → P
-    not-here b m f e = absurd (f (ap placeOf (sym (holding b m n e .1)) ∙ at))
-
-    go : Applies n (callTests t (some q)) → missing t (q .process) (q .a) (needOf (q .kind)) ≡ some n
-    go (this-test e) = not-here _ 5 (λ h. let y : ⊥ = omega arith in y) e
-    go (later-test (this-test e)) = not-here _ 6 (λ h. let y : ⊥ = omega arith in y) e
-    go (later-test (later-test (this-test e))) = not-here _ 7 (λ h. let y : ⊥ = omega arith in y) e
-    go (later-test (later-test (later-test (this-test e)))) = e
-    go (later-test (later-test (later-test (later-test (this-test e))))) = not-here _ 9 (λ h. let y : ⊥ = omega arith in y) e
-    go (later-test (later-test (later-test (later-test (later-test (this-test e)))))) = not-here _ 10 (λ h. let y : ⊥ = omega arith in y) e
-
 -- none of the numbers has the place p
 away : ℕ → List ℕ → Bool
 away p [] = true
@@ -238,6 +215,24 @@ elsewhere n p (m ∷ ms) (some k ∷ ts) c e d a = no-both (eq-eqb p (placeOf m)
 elsewhere n p (m ∷ ms) (none ∷ ts) c e d a = elsewhere n p ms ts (c .1) e d (and-r (not (eqb p (placeOf m))) _ a)
 elsewhere n p [] (t ∷ ts) c e d a = absurd c
 elsewhere n p (m ∷ ms) [] c e d a = absurd c
+
+-- between tests that stand elsewhere, the one at the place decides
+at-place : (n p : ℕ) (ms is : List ℕ) (ts us : List Test) (t : Test) → StandAt ms ts → StandAt is us → placeOf n ≡ p → away p ms ≡ true → away p is ≡ true
+    → firstThat (ts ++ t ∷ us) ≡ some n → t ≡ some n
+unfolding StandAt firstThat away
+at-place n p [] is [] us (some k) c d at a b e = e
+at-place n p [] is [] us none c d at a b e = absurd (elsewhere n p is us d e at b)
+at-place n p (m ∷ ms) is (some k ∷ ts) us t c d at a b e = absurd (elsewhere n p (m ∷ ms) (some k ∷ ts) c e at a)
+at-place n p (m ∷ ms) is (none ∷ ts) us t c d at a b e = at-place n p ms is ts us t (c .1) d at (and-r (not (eqb p (placeOf m))) _ a) b e
+at-place n p [] is (u ∷ ts) us t c d at a b e = absurd c
+at-place n p (m ∷ ms) is [] us t c d at a b e = absurd c
+
+-- a call that is refused with one of them lacks what it needs
+call-lacks : (t : Tables) (q : Call) (n : ℕ) → placeOf n ≡ placeOf 8 → firstThat (callTests t (some q)) ≡ some n → missing t (q .process) (q .a) (needOf (q .kind)) ≡ some n
+unfolding TestsInPlace StandAt callTests away placeOf places placeIn isIn
+call-lacks t q n at e =
+    let c = tests-in-place .1 t q in
+    at-place n 7 (5 ∷ 6 ∷ 7 ∷ []) (9 ∷ 10 ∷ []) (_ ∷ _ ∷ _ ∷ []) (_ ∷ _ ∷ []) _ (c .0, (c .1 .0, (c .1 .1 .0, tt))) (c .1 .1 .1 .1) at refl refl e
 
 -- a record that is refused with one of them is a call that lacks what it needs
 record-lacks : (s : State) (bytes : List ℕ) (n : ℕ) → placeOf n ≡ placeOf 8 → answer s bytes ≡ refused n

@@ -100,10 +100,10 @@ module _ (t : Tables) (p a b c : ℕ) where
 -- what a call must find
 pub data Need : Type 0 where
   noNeed : Need
-  openDescriptor : Need  -- a
-  boundName : Need  -- a
+  openDescriptor : Need  -- descriptor a
+  boundName : Need  -- name a
   aLink : Need  -- between the process and container a, either way
-  usedContainer : Need  -- a
+  usedContainer : Need  -- container a
 
 unfoldable pub needOf : Kind → Need
 needOf start = noNeed

@@ -12,15 +12,15 @@ use lib.Dec.{leb}
 use lib.ListN.{getD}
 use borrow.Author.Tests.{ltb-true, eqb-true, not-false}
 use Rattle.flow.specs.Lists.{firstThat}
-use Rattle.flow.specs.Box.{closed, slot, containerOf, isFile, Tables, descriptor, isOpen}
+use Rattle.flow.specs.Box.{closed, slot, containerOf, isFile, descriptor, isOpen}
 use Rattle.flow.specs.Calls.{Kind, kindNumber}
 use Rattle.flow.specs.Records.{kinds, kindOf, callBy, callFrom}
 use Rattle.flow.specs.Refusals.{Range, aProcess, aName, aContainer, aFile, anItem, unused, ranges, fieldsFit, inRange, openDescriptor, needOf, missing, callTests}
 use Rattle.flow.proofs.Bools.{and-r}
 use Rattle.flow.proofs.KindLaws.{kind-at}
-use Rattle.flow.proofs.TableLaws.{AllNone, all-none, untrue}
+use Rattle.flow.proofs.TableLaws.{untrue}
 use Rattle.flow.proofs.Rows.{target-lt}
-use Rattle.flow.proofs.Accepted.{Accepted, fits-process, fits-a, fits-b, fits-c}
+use Rattle.flow.proofs.Accepted.{Accepted, accepted, fits-process, fits-a, fits-b, fits-c}
 use Rattle.store.specs.Maps.{view}
 use Rattle.tracker.specs.declared.Call.{Call}
 use Rattle.tracker.specs.Rows.{asked, callAt, Passes}
@@ -53,22 +53,16 @@ module _ (q : Call) where
       let f = fits-process (ranges k) (asked q k) h in
       ⊎-elim (λ e. ltb-true _ _ (rw e at f)) (λ e. let z : q .process ≡ 0 = eqb-true _ _ (rw e at f) in omega arith) (process-range k)
 
--- ---- the tests
-pub accepted : (t : Tables) (q : Call) (k : Kind) → firstThat (callTests t (some (asked q k))) ≡ none → Accepted t (asked q k)
-unfolding callTests AllNone
-accepted t q k e =
-    let g = all-none (callTests t (some (asked q k))) e in
-    record { fits = not-false (fieldsFit (ranges k) (asked q k)) (untrue _ 5 (g .0)); lives = untrue _ 6 (g .1 .0); free = untrue _ 7 (g .1 .1 .0); there = g .1 .1 .1 .0 }
-
+-- ---- a call that is not refused
 module _ {words descriptors names : List ℕ} {q : Call} (h : Passes words descriptors names q) where
   at-kind : (k : Kind) → q .kind ≡ kindNumber k → Accepted (view words descriptors names .tables) (asked q k)
   unfolding callFrom callBy
-  at-kind k e = let o : kindOf (q .kind) ≡ some k = ap kindOf e ∙ kind-at k in accepted _ q k (rw o at (h .none-holds))
+  at-kind k e = let o : kindOf (q .kind) ≡ some k = ap kindOf e ∙ kind-at k in accepted _ (asked q k) (rw o at (h .none-holds))
 
   some-kind : (o : Option Kind) → firstThat (callTests (view words descriptors names .tables) (callAt q o)) ≡ none → q .process < 16
   unfolding callBy callTests firstThat
   some-kind none e = absurd (let z : _≡_ {A = ℕ} 0 1 = cc in let y : ⊥ = omega arith in y)
-  some-kind (some k) e = fit-process q k (accepted _ q k e .fits)
+  some-kind (some k) e = fit-process q k (accepted _ (asked q k) e .fits)
 
   pub process-lt : q .process < 16
   unfolding callFrom

@@ -23,7 +23,7 @@ use Rattle.flow.proofs.TableLaws.{table-at, table-length, is-table}
 use Rattle.flow.proofs.Moves.{given-at}
 use Rattle.flow.proofs.Rows.{now-live}
 use Rattle.flow.proofs.Use.{used-process}
-use Rattle.flow.proofs.Accepted.{Accepted, fits-a}
+use Rattle.flow.proofs.Accepted.{Accepted, accepted, fits-a}
 use Rattle.store.specs.declared.Plan.{Plan}
 use Rattle.store.specs.Maps.{Maps, withItems, view, cleared, itemsBy}
 use Rattle.store.proofs.Words.{by-length}
@@ -31,7 +31,7 @@ use Rattle.tracker.specs.declared.Call.{Call}
 use Rattle.tracker.specs.Rows.{asked, callIn, tablesAt, Passes}
 use Rattle.tracker.specs.Plans.{nothing, planOf, planBy, planAt, givesBy, givesAt, freeSet, emptiedBy, emptiedAt, giving, heldBy, lostBy, lostAt, goneOf}
 use Rattle.tracker.specs.Worked.{given as givenBy, finished, Worked, done, mapsBy, worked, Foreseen}
-use Rattle.tracker.proofs.Facts.{fit-process, accepted}
+use Rattle.tracker.proofs.Facts.{fit-process}
 use Rattle.tracker.proofs.Ending.{Ends, ends}
 
 -- ---- a flow is its plan
@@ -258,7 +258,7 @@ module _ (m : Maps) (long : length (m .items) ≡ 64) (lf : length (m .tables .f
       → record { tables = tablesAt (m .tables) q o; items = cleared (cleared (itemsBy (m .items) (planAt m q o)) (emptiedAt (m .tables) q o)) (goneOf (tablesAt (m .tables) q o) (lostAt (m .tables) q o)) } ≡ mapsBy m (callBy o (q .process) (q .a) (q .b) (q .c)) none
   unfolding callBy callTests firstThat mapsBy tablesAt planAt emptiedAt lostAt change
   finished-by none e = absurd (let z : _≡_ {A = ℕ} 0 1 = cc in let y : ⊥ = omega arith in y)
-  finished-by (some k) e = ap (λ (l : List ℕ). record { tables = tablesOf k; items = l }) (made k (accepted (m .tables) q k e))
+  finished-by (some k) e = ap (λ (l : List ℕ). record { tables = tablesOf k; items = l }) (made k (accepted (m .tables) (asked q k) e))
 
   -- gifts and the rest together are the call
   pub finished-call : firstThat (callTests (m .tables) (callIn q)) ≡ none → finished (givenBy m q) q ≡ mapsBy m (callIn q) none
@@ -316,7 +316,7 @@ module _ (m : Maps) (long : length (m .items) ≡ 64) (lf : length (m .tables .f
   foreseen-at none x d g = absurd (let z : _≡_ {A = ℕ} 0 1 = cc in let y : ⊥ = omega arith in y)
   foreseen-at (some k) x d g =
       let e : asked q k ≡ x = cc in
-      rw (← e) (foreseen-by k (accepted (m .tables) q k g))
+      rw (← e) (foreseen-by k (accepted (m .tables) (asked q k) g))
 
   -- of a call that is not refused
   pub foreseen : (x : Asked) → callIn q ≡ some x → firstThat (callTests (m .tables) (callIn q)) ≡ none
