@@ -170,11 +170,10 @@ def _map_read(state: State, call: Call) -> None:
 
 
 def _map_both(state: State, call: Call) -> None:
+    # In the order of document 02, Paper 3: the write is of what the process then holds.
     container = state.descriptors[call.process, call.a]
-    from_container = state.items[container]
-    from_process = state.items[call.caller]
-    state.give(call.caller, from_container)
-    state.give(container, from_process)
+    _read(state, call)
+    _write(state, call)
     state.links.update([(container, call.caller), (call.caller, container)])
 
 

@@ -62,6 +62,17 @@ def exit_process(state, call):
     state.links = links
 tracker.EFFECTS[Kind.EXIT] = exit_process
 """,
+    "lays the links of a map both that is inhibited": """
+right_judge = tracker.judge
+def judge_linked(state, call):
+    answer, after = right_judge(state, call)
+    if call.kind == Kind.MAP_BOTH and answer.word == "inhibit":
+        after = state.copy()
+        container = state.descriptors[call.process, call.a]
+        after.links |= {(container, call.caller), (call.caller, container)}
+    return answer, after
+tracker.judge = judge_linked
+""",
     "answers 8 whatever is missing": """
 tracker.LACKED = dict.fromkeys(tracker.LACKED, Refusal.MISSING)
 """,

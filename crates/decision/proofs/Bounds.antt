@@ -13,6 +13,7 @@ use Rattle.sets.specs.Sets.{has, only}
 use Rattle.sets.proofs.Members.{only-lt, union-lt}
 use Rattle.flow.specs.Box.{Condition, Rule, Tables, State, noTables, fresh, itemsOf, closed}
 use Rattle.flow.specs.Links.{given, reach}
+use Rattle.flow.specs.MapBoth.{inSequence}
 use Rattle.flow.specs.Calls.{Call, Flow, still, gift, arrival, exchange, copy, clear, Change, moved, ended, itemsAfter, after}
 use Rattle.flow.specs.Records.{byteAt, tagOf, forbidTag, separateTag, statedLength, valueOf, conditionOf, numberFrom, setIn as setRead, ruleWith, ruleIn, reading, callOf}
 use Rattle.flow.specs.Verdicts.{Outcome, refuses, loads, allows, inhibits, modifies, outcome, withRule, stateAfter}
@@ -36,11 +37,12 @@ unfolding given
 given-below l r x hx hl = table-numbers 64 _ (pow-pos 64) (λ v. choice Fits64 (has r v) _ _ (λ e. union-lt (getD l v 0) x (hl v) hx) (λ e. hl v))
 
 moved-below : (t : Tables) (items : List ℕ) → Numbers 64 (2 ^ 64) items → (u : Tables) (f : Flow) → Fit t u f → Numbers 64 (2 ^ 64) (moved t items f)
-unfolding moved Fit
+unfolding moved inSequence Fit
 moved-below t items h w still fit = h
 moved-below t items h w (gift g u) fit = given-below items (reach t u) _ (h .fits g) (h .fits)
 moved-below t items h w (arrival u i) fit = given-below items (reach t u) (only i) (only-lt i (fit .1)) (h .fits)
-moved-below t items h w (exchange u v) fit = given-below _ (reach t u) _ (h .fits v) (given-below items (reach t v) _ (h .fits u) (h .fits) .fits)
+moved-below t items h w (exchange u v) fit =
+    let first = given-below items (reach t v) (getD items u 0) (h .fits u) (h .fits) in given-below _ (reach t u) _ (first .fits v) (first .fits)
 moved-below t items h w (copy u v) fit = table-numbers 64 _ (pow-pos 64) (λ x. choice Fits64 (eqb x v) _ _ (λ e. h .fits u) (λ e. h .fits x))
 moved-below t items h w (clear u) fit = table-numbers 64 _ (pow-pos 64) (λ x. choice Fits64 (eqb x u) _ _ (λ e. pow-pos 64) (λ e. h .fits x))
 

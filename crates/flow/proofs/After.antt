@@ -10,6 +10,7 @@ use Rattle.sets.specs.Sets.{has}
 use Rattle.sets.proofs.Members.{none-has}
 use Rattle.flow.specs.Box.{Tables, State, itemsOf, holds}
 use Rattle.flow.specs.Links.{linked, reach, given, used}
+use Rattle.flow.specs.MapBoth.{inSequence}
 use Rattle.flow.specs.Calls.{Flow, still, gift, arrival, exchange, copy, clear, Change, moved, ended, itemsAfter, after}
 use Rattle.flow.proofs.Bools.{and-false-l, by, no-both, choice, chosen-r}
 use Rattle.flow.proofs.TableLaws.{table-at}
@@ -70,12 +71,12 @@ module _ (s : State) (t : Tables) (k : Linking (s .tables)) (b : Bare s) where
   ungiven l u x v hv hu e z = given-at l (reach (s .tables) u) x v hv ∙ chosen-r (has (reach (s .tables) u) v) _ _ (outside u v hu e) ∙ z
 
   pub unmoved : (f : Flow) → Fit (s .tables) t f → (v : ℕ) → v < 64 → used (s .tables) v ≡ false → used t v ≡ false → getD (movedIn s f) v 0 ≡ 0
-  unfolding moved Fit itemsOf
+  unfolding moved inSequence Fit itemsOf
   unmoved still fit v hv e g = b v hv e
   unmoved (gift a u) fit v hv e g = ungiven (s .items) u _ v hv (fit .2) e (b v hv e)
   unmoved (arrival u i) fit v hv e g = ungiven (s .items) u _ v hv (fit .2) e (b v hv e)
   unmoved (exchange a c) fit v hv e g =
-      ungiven (given (s .items) (reach (s .tables) c) (itemsOf s a)) a (itemsOf s c) v hv (fit .2) e (ungiven (s .items) c (itemsOf s a) v hv (fit .3) e (b v hv e))
+      ungiven (given (s .items) (reach (s .tables) c) (itemsOf s a)) a _ v hv (fit .2) e (ungiven (s .items) c (itemsOf s a) v hv (fit .3) e (b v hv e))
   unmoved (copy a c) fit v hv e g =
       copy-at s a c v hv
       ∙ by (eqb v c) (λ q. no-both (fit .3) (rw (eqb-true v c q) at g)) (λ q. ap (itemsOf s) (source-other a c v (eqb-false v c q)) ∙ b v hv e)

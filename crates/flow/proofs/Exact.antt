@@ -12,6 +12,7 @@ use Rattle.sets.specs.Sets.{has, only, _∪_}
 use Rattle.sets.proofs.Members.{none-has, only-has, union-has}
 use Rattle.flow.specs.Box.{Tables, State, itemsOf}
 use Rattle.flow.specs.Links.{reach, given}
+use Rattle.flow.specs.MapBoth.{atOnce}
 use Rattle.flow.specs.Calls.{Call, Flow, still, gift, arrival, exchange, copy, clear, Change, moved, ended, after}
 use Rattle.flow.specs.Records.{callOf}
 use Rattle.flow.specs.Verdicts.{Outcome, refuses, loads, allows, inhibits, modifies, outcome, withRule, stateAfter}
@@ -20,9 +21,10 @@ use Rattle.flow.specs.Contents.{Step, entry, memory, Machine, flowed, ch
 use Rattle.flow.specs.Exact.{DifferOnlyAt, Exact}
 use Rattle.flow.proofs.Bools.{or-false-i, no-both, choice, choices, chosen-r}
 use Rattle.flow.proofs.Moves.{movedIn, Fit, given-at, source, source-copy, source-other, copy-at, clear-at}
+use Rattle.flow.proofs.MapBoth.{as-at-once}
 use Rattle.flow.proofs.After.{after-items}
 use Rattle.flow.proofs.Outcomes.{Made, Sound}
-use Rattle.flow.proofs.Keeping.{Invariant, fresh-empty, sound, state-kept}
+use Rattle.flow.proofs.Keeping.{Invariant, fed-bound, fresh-empty, sound, state-kept}
 use Rattle.flow.proofs.TwoRuns.{run-tracker}
 
 -- contents are the items collected
@@ -65,10 +67,11 @@ module _ (s : State) (k : Invariant s) (κ : ℕ → ℕ) (mirrors : Mirrors s �
   both false false v a b e f g = e
 
   mirror-exchange : (t : Tables) (a b v : ℕ) → Fit (s .tables) t (exchange a b) → v < 64 → flowed collecting n x (s .tables) (exchange a b) κ v ≡ getD (movedIn s (exchange a b)) v 0
-  unfolding flowed collecting moved Fit itemsOf
+  unfolding flowed collecting moved atOnce Fit itemsOf
   mirror-exchange t a b v fit hv =
       both (has (reach (s .tables) a) v) (has (reach (s .tables) b) v) v a b (mirrors v hv) (mirrors a (fit .0)) (mirrors b (fit .1))
-      ∙ sym (given-at (given (s .items) (reach (s .tables) b) (itemsOf s a)) (reach (s .tables) a) (itemsOf s b) v hv
+      ∙ sym (ap (λ (l : List ℕ). getD l v 0) (as-at-once (s .tables) (fed-bound s (k .linking)) (s .items) (k .along) a b (fit .0) (fit .1))
+      ∙ given-at (given (s .items) (reach (s .tables) b) (itemsOf s a)) (reach (s .tables) a) (itemsOf s b) v hv
       ∙ ap (λ (y : ℕ). elim (has (reach (s .tables) a) v) as (λ z. ℕ) [ true ↦ y ∪ itemsOf s b | false ↦ y ]) (given-at (s .items) (reach (s .tables) b) (itemsOf s a) v hv))
 
   mirror-flow : (t : Tables) (f : Flow) → Fit (s .tables) t f → ((u i : ℕ) → f ≡ arrival u i → x ≡ only i) → (v : ℕ) → v < 64 → flowed collecting n x (s .tables) f κ v ≡ getD (movedIn s f) v 0

@@ -10,6 +10,7 @@ pub mod Reach
 pub mod Rows
 pub mod Use
 pub mod Moves
+pub mod MapBoth
 pub mod After
 pub mod Accepted
 pub mod Entries
@@ -19,6 +20,7 @@ pub mod Keeping
 pub mod TwoRuns
 pub mod Exact
 pub mod Runs
+pub mod AtOnce
 pub mod Consequences
 pub mod Holders
 pub mod Fork

@@ -1,8 +1,8 @@
 -- What containers hold after items moved, and that items go along links.
 use Prim.Native.Nat.{ℕ, _^_, _<_}
-use mathlib.Core.Path.{_≡_, refl, sym, ap, _∙_}
+use mathlib.Core.Path.{_≡_, refl, sym, ap, ap₂, _∙_}
 use mathlib.Core.Logic.{_⊎_, ⊎-elim}
-use mathlib.Core.Bool.{Bool, true, false, not, _&&_, _||_, or-false, or-comm}
+use mathlib.Core.Bool.{Bool, true, false, not, _&&_, _||_, or-false}
 use mathlib.Core.List.{List}
 use lib.Dec.{eqb}
 use lib.ListN.{getD}
@@ -11,6 +11,7 @@ use Rattle.sets.specs.Sets.{has, only, _∪_}
 use Rattle.sets.proofs.Members.{union-has, only-has, none-has}
 use Rattle.flow.specs.Box.{Tables, State, itemsOf, holds, feeds}
 use Rattle.flow.specs.Links.{linked, reach, given, used}
+use Rattle.flow.specs.MapBoth.{givenFrom, inSequence}
 use Rattle.flow.specs.Calls.{Flow, still, gift, arrival, exchange, copy, clear, moved}
 use Rattle.flow.proofs.Bools.{or-elim, or-l, or-r, and-l, and-r, and-i, by, no-both, choice, chosen-l, chosen-r}
 use Rattle.flow.proofs.TableLaws.{table-at}
@@ -31,6 +32,18 @@ added-has false x y i = sym (or-false (has x i))
 
 pub given-has : (l : List ℕ) (r x v i : ℕ) → v < 64 → inList (given l r x) v i ≡ (inList l v i || (has r v && has x i))
 given-has l r x v i h = ap (λ (z : ℕ). has z i) (given-at l r x v h) ∙ added-has (has r v) (getD l v 0) x i
+
+-- what the receiver of a gift then holds
+pub receiver-at : (t : Tables) (l : List ℕ) (g u : ℕ) → u < 64 → getD (givenFrom t l g u) u 0 ≡ getD l u 0 ∪ getD l g 0
+receiver-at t l g u h = given-at l (reach t u) (getD l g 0) u h ∙ chosen-l (has (reach t u) u) _ _ (reach-here t u)
+
+-- it holds all that the giver then holds
+receiver-has : (t : Tables) (l : List ℕ) (g u i : ℕ) → g < 64 → u < 64 → inList (givenFrom t l g u) g i ≡ true → inList (givenFrom t l g u) u i ≡ true
+receiver-has t l g u i hg hu h =
+    let r : ℕ = reach t u in
+    let held : inList l g i ≡ true =
+    or-elim (inList l g i) (has r g && inList l g i) (λ e. e) (and-r (has r g) _) (sym (given-has l r (getD l g 0) g i hg) ∙ h) in
+    given-has l r (getD l g 0) u i hu ∙ or-r (inList l u i) _ (and-i (has r u) _ (reach-here t u) held)
 
 -- the container whose items v has after a copy from a to b
 unfoldable pub source : ℕ → ℕ → ℕ → ℕ
@@ -70,21 +83,14 @@ module _ (s : State) where
   unfolding moved holds itemsOf
   arrival-holds u j v i h = given-has (s .items) (reach (s .tables) u) (only j) v i h ∙ ap (λ (b : Bool). holds s v i || (has (reach (s .tables) u) v && b)) (only-has j i)
 
-  pub exchange-holds : (a b v i : ℕ) → v < 64
-      → inList (movedIn s (exchange a b)) v i ≡ ((holds s v i || (has (reach (s .tables) b) v && holds s a i)) || (has (reach (s .tables) a) v && holds s b i))
-  unfolding moved holds itemsOf
-  exchange-holds a b v i h =
-      given-has (given (s .items) (reach (s .tables) b) (itemsOf s a)) (reach (s .tables) a) (itemsOf s b) v i h
-      ∙ ap (λ (x : Bool). x || (has (reach (s .tables) a) v && holds s b i)) (given-has (s .items) (reach (s .tables) b) (itemsOf s a) v i h)
-
-  -- the two may be named in either order
-  exchange-swap : (a b v i : ℕ) → v < 64 → inList (movedIn s (exchange b a)) v i ≡ inList (movedIn s (exchange a b)) v i
-  exchange-swap a b v i h =
-      exchange-holds b a v i h ∙ swap (holds s v i) (has (reach (s .tables) a) v && holds s b i) (has (reach (s .tables) b) v && holds s a i) ∙ sym (exchange-holds a b v i h)
-    where
-      swap : (x y z : Bool) → (x || y || z) ≡ (x || z || y)
-      swap true y z = refl
-      swap false y z = or-comm y z
+  -- the second gift is of what b then holds
+  pub exchange-holds : (a b v i : ℕ) → b < 64 → v < 64
+      → inList (movedIn s (exchange a b)) v i ≡ ((holds s v i || (has (reach (s .tables) b) v && holds s a i)) || (has (reach (s .tables) a) v && (holds s b i || (has (reach (s .tables) b) b && holds s a i))))
+  unfolding moved inSequence holds itemsOf
+  exchange-holds a b v i hb hv =
+      let then : (u : ℕ) → u < 64 → inList (givenFrom (s .tables) (s .items) a b) u i ≡ (holds s u i || (has (reach (s .tables) b) u && holds s a i)) =
+      λ u hu. gift-holds a b u i hu in
+      given-has _ (reach (s .tables) a) _ v i hv ∙ ap₂ (λ (x y : Bool). x || (has (reach (s .tables) a) v && y)) (then v hv) (then b hb)
 
   pub copy-holds : (a b v i : ℕ) → v < 64 → inList (movedIn s (copy a b)) v i ≡ holds s (source a b v) i
   unfolding holds
@@ -131,33 +137,23 @@ module _ (s : State) (bound : (p : ℕ) → feeds (s .tables) p < 2 ^ 64) where
     gift-along g u fit a b i ha hb l h =
         ⊎-elim
         (λ e. given-along (s .items) u (itemsOf s g) (fit .1) k a b i ha hb e h)
-        (λ e. let w : holds s g i ≡ true =
-        or-elim (holds s g i) (has (reach (s .tables) u) g && holds s g i) (λ f. f) (and-r (has (reach (s .tables) u) g) _)
-        (sym (gift-holds s g u g i (fit .0)) ∙ rw (e .0) at h) in
-        rw (e .1) (gift-holds s g u u i (fit .1) ∙ or-r (holds s u i) _ (and-i (has (reach (s .tables) u) u) _ (reach-here (s .tables) u) w)))
+        (λ e. rw (e .1) (receiver-has (s .tables) (s .items) g u i (fit .0) (fit .1) (rw (e .0) at h)))
         (fit .3 a b l)
 
-    -- both givers' items are in both
-    exchanged : (a b i : ℕ) → a < 64 → b < 64 → inList (movedIn s (exchange a b)) a i ≡ true → inList (movedIn s (exchange a b)) b i ≡ true
-    exchanged a b i ha hb h =
-        let rb : Bool = has (reach (s .tables) b) b in
-        let from-a : holds s a i ≡ true → inList (movedIn s (exchange a b)) b i ≡ true =
-        λ e. exchange-holds s a b b i hb ∙ or-l _ (has (reach (s .tables) a) b && holds s b i) (or-r (holds s b i) _ (and-i rb _ (reach-here (s .tables) b) e)) in
-        let from-b : holds s b i ≡ true → inList (movedIn s (exchange a b)) b i ≡ true =
-        λ e. exchange-holds s a b b i hb ∙ or-l _ (has (reach (s .tables) a) b && holds s b i) (or-l _ (rb && holds s a i) e) in
-        or-elim (holds s a i || (has (reach (s .tables) b) a && holds s a i)) (has (reach (s .tables) a) a && holds s b i)
-        (or-elim (holds s a i) (has (reach (s .tables) b) a && holds s a i) from-a (λ e. from-a (and-r (has (reach (s .tables) b) a) _ e)))
-        (λ e. from-b (and-r (has (reach (s .tables) a) a) _ e))
-        (sym (exchange-holds s a b a i ha) ∙ h)
-
+    -- the second gift is of what b then holds; so b holds what a then holds
     exchange-along : (a b : ℕ) → Fit (s .tables) t (exchange a b) → Along t (movedIn s (exchange a b))
-    unfolding Fit moved itemsOf
+    unfolding Fit moved inSequence itemsOf
     exchange-along a b fit u v i hu hv l h =
+        let first : List ℕ = givenFrom (s .tables) (s .items) a b in
+        let r : ℕ = reach (s .tables) a in
+        let from-a : inList (givenFrom (s .tables) first b a) a i ≡ true → inList first b i ≡ true =
+        λ e. or-elim (inList first a i) (has r a && inList first b i) (receiver-has (s .tables) (s .items) a b i (fit .0) (fit .1)) (and-r (has r a) _)
+        (sym (given-has first r (getD first b 0) a i (fit .0)) ∙ e) in
         ⊎-elim
-        (λ e. given-along (given (s .items) (reach (s .tables) b) (itemsOf s a)) a (itemsOf s b) (fit .0) (given-along (s .items) b (itemsOf s a) (fit .1) k) u v i hu hv e h)
+        (λ e. given-along first a (getD first b 0) (fit .0) (given-along (s .items) b (itemsOf s a) (fit .1) k) u v i hu hv e h)
         (⊎-elim
-        (λ e. rw (e .1) (exchanged a b i (fit .0) (fit .1) (rw (e .0) at h)))
-        (λ e. rw (e .1) (exchange-swap s b a a i (fit .0) ∙ exchanged b a i (fit .1) (fit .0) (exchange-swap s a b b i (fit .1) ∙ rw (e .0) at h))))
+        (λ e. rw (e .1) (given-has first r (getD first b 0) b i (fit .1) ∙ or-l _ _ (from-a (rw (e .0) at h))))
+        (λ e. rw (e .1) (receiver-has (s .tables) first b a i (fit .1) (fit .0) (rw (e .0) at h))))
         (fit .4 u v l)
 
     copy-along : (a b : ℕ) → Fit (s .tables) t (copy a b) → Along t (movedIn s (copy a b))

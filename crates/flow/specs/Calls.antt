@@ -8,6 +8,7 @@ use Rattle.sets.specs.Sets.{only, without, _∪_}
 use Rattle.flow.specs.Lists.{table}
 use Rattle.flow.specs.Box.{containerCount, descriptorCount, containerOf, slot, closed, Tables, State, feedersOf, feeds, descriptor, name}
 use Rattle.flow.specs.Links.{reach, given, isFed, used}
+use Rattle.flow.specs.MapBoth.{givenFrom, inSequence}
 
 pub data Kind : Type 0 where
   start : Kind
@@ -69,7 +70,7 @@ pub data Flow : Type 0 where
   still : Flow  -- no item moves
   gift : ℕ → ℕ → Flow  -- what the first container holds is given to the second
   arrival : ℕ → ℕ → Flow  -- the item, second, comes in from outside and is given to the container, first
-  exchange : ℕ → ℕ → Flow  -- each of the two is given what the other holds, both from the state before
+  exchange : ℕ → ℕ → Flow  -- the second is given what the first holds, then the first what the second then holds
   copy : ℕ → ℕ → Flow  -- the second gets the first's items
   clear : ℕ → Flow  -- the container is emptied
 
@@ -161,9 +162,9 @@ change t q = record { tables = tablesBy t (q .process) (q .a) (q .b) (q .c) (q .
 -- the items after they moved; reach goes by the links before the call
 unfoldable pub moved : Tables → List ℕ → Flow → List ℕ
 moved t items still = items
-moved t items (gift g u) = given items (reach t u) (getD items g 0)
+moved t items (gift g u) = givenFrom t items g u
 moved t items (arrival u i) = given items (reach t u) (only i)
-moved t items (exchange u v) = given (given items (reach t v) (getD items u 0)) (reach t u) (getD items v 0)
+moved t items (exchange u v) = inSequence t items u v
 moved t items (copy u v) = table containerCount (λ x. elim (eqb x v) [ true ↦ getD items u 0 | false ↦ getD items x 0 ])
 moved t items (clear u) = table containerCount (λ x. elim (eqb x u) [ true ↦ 0 | false ↦ getD items x 0 ])
 

@@ -1,6 +1,7 @@
 pub mod Lists
 pub mod Box
 pub mod Links
+pub mod MapBoth
 pub mod Calls
 pub mod Rules
 pub mod Records
@@ -13,3 +14,4 @@ pub mod Exact
 pub mod Kept
 pub mod Runs
 pub mod Consequences
+pub mod AtOnce

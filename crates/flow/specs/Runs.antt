@@ -1,5 +1,5 @@
 -- Document 01, Runs to check: the starred runs as one list, and two examples that contents do move. 02, Paper 1: the holders after some logs;
--- Paper 2: which thing was missing.
+-- Paper 2: which thing was missing; Paper 3: map both.
 use Prim.Native.Nat.{ℕ, _+_}
 use mathlib.Core.Path.{_≡_}
 use mathlib.Core.Bool.{true, false}
@@ -237,6 +237,35 @@ lacking =
 
 unfoldable pub Lacking : Type 0
 Lacking = map outcomeOf lacking ≡ lacking
+
+-- ---- 02, Paper 3: map both
+-- 24 holds item 1 and links to process 1; process 0 (container 8) holds item 2 and links to 25
+unfoldable pub twoSides : List ℕ
+twoSides =
+    call start 0 0 0 0 ++ call start 1 0 0 0 ++ call create 0 0 0 24 ++ call create 0 1 1 25 ++ call openName 1 0 0 0 ++ call label 0 24 1 0
+    ++ call mapRead 1 0 0 0 ++ call mapBoth 0 1 0 0 ++ call label 0 8 2 0
+
+unfoldable pub mappingBoth : List Check
+mappingBoth =
+    -- process 0 maps 24 both ways: both items are on both sides, and what comes later to either end comes to all
+    check (twoSides ++ call mapBoth 0 0 0 0) (allowed 10) (holding 8 6 ∷ holding 25 6 ∷ holding 24 6 ∷ holding 9 6 ∷ [])
+    ∷ check
+    (twoSides ++ call mapBoth 0 0 0 0 ++ call label 0 25 3 0)
+    (allowed 11)
+    (holding 8 14 ∷ holding 25 14 ∷ holding 24 14 ∷ holding 9 14 ∷ [])
+    -- where item 2 may not be in process 1, or item 1 not in 25, it is inhibited, and no link is laid: item 4 on 24 stays on its side
+    ∷ check
+    (setRule 0x11 2 0 0 2 0 0 0 ++ twoSides ++ call mapBoth 0 0 0 0 ++ call label 0 24 4 0)
+    (rule 0 ∷ allowed 9 ++ inhibit 0 ∷ allow ∷ [])
+    (holding 8 4 ∷ holding 25 4 ∷ holding 24 18 ∷ holding 9 18 ∷ [])
+    ∷ check
+    (setRule 0x11 1 2 0 0 0 0 0 ++ twoSides ++ call mapBoth 0 0 0 0 ++ call label 0 24 4 0)
+    (rule 0 ∷ allowed 9 ++ inhibit 0 ∷ allow ∷ [])
+    (holding 8 4 ∷ holding 25 4 ∷ holding 24 18 ∷ holding 9 18 ∷ [])
+    ∷ []
+
+unfoldable pub MappingBoth : Type 0
+MappingBoth = map outcomeOf mappingBoth ≡ mappingBoth
 
 -- ---- contents do move
 -- the sum of the contents of what links to a container

@@ -233,6 +233,10 @@ pub lt-pow : (x : ℕ) → x < 2 ^ x
 lt-pow zero = omega arith
 lt-pow (suc x) = omega (arith, lt-pow x)
 
+-- sets of any numbers
+pub same-set : (x y : ℕ) → ((i : ℕ) → has x i ≡ has y i) → x ≡ y
+same-set x y e = let n : x + y < 2 ^ (x + y) = lt-pow (x + y) in same-members (x + y) x y (omega arith) (omega arith) (λ i l. e i)
+
 -- any number but 0 has a member
 pub some-member : (x : ℕ) → 0 < x → (i : ℕ) × (has x i ≡ true)
 some-member x p = (trailingZeros x x, trailing-has x x (lt-pow x) p)

@@ -15,6 +15,7 @@ use Rattle.sets.proofs.Members.{those-has, none-has, only-has, union-has, witho
 use Rattle.flow.specs.Lists.{firstThat, refusalFrom}
 use Rattle.flow.specs.Box.{containerOf, Tables, descriptor}
 use Rattle.flow.specs.Links.{reach, given, isFed, used}
+use Rattle.flow.specs.MapBoth.{givenFrom, inSequence}
 use Rattle.flow.specs.Calls.{Kind, start, openName, create, pipe, device, dup, close, read, write, truncate, mapRead, mapBoth, unmap, unlink, rename, link, fork, exit, label, Call as Asked, Flow, still, gift, arrival, exchange, copy, clear, Change, withLive, withLinks, withDescriptors, tablesBy, flowBy, change, moved, ended, itemsAfter}
 use Rattle.flow.specs.Records.{kindOf, callBy, callFrom}
 use Rattle.flow.specs.Refusals.{ranges, inRange, callTests}
@@ -64,13 +65,13 @@ module _ (m : Maps) (long : length (m .items) ≡ 64) where
 
   as-gifts : (v : ℕ) → v < 64 → (f : Flow)
       → unless (has (emptiedOf f) v) (plus (has (planOf m f .to2) v) (planOf m f .given2) (plus (has (planOf m f .to) v) (planOf m f .given) (unless (has (planOf m f .empty) v) (getD items v 0)))) ≡ getD (moved (m .tables) items f) v 0
-  unfolding emptiedOf planOf moved _∪_
+  unfolding emptiedOf planOf moved inSequence _∪_
   as-gifts v h still = rw (none-has v)
   as-gifts v h (gift g u) = rw (none-has v) (sym (given-at items (reach (m .tables) u) (getD items g 0) v h))
   as-gifts v h (arrival u i) = rw (none-has v) (sym (given-at items (reach (m .tables) u) (only i) v h))
   as-gifts v h (exchange a b) =
       rw (none-has v)
-      (sym (given-at _ (reach (m .tables) a) (getD items b 0) v h ∙ ap (plus (has (reach (m .tables) a) v) (getD items b 0)) (given-at items (reach (m .tables) b) (getD items a 0) v h)))
+      (sym (given-at _ (reach (m .tables) a) _ v h ∙ ap (plus (has (reach (m .tables) a) v) (getD (givenFrom (m .tables) items a b) b 0)) (given-at items (reach (m .tables) b) (getD items a 0) v h)))
   as-gifts v h (copy a b) = rw (none-has v, only-has b v, eqb-sym b v) (go (eqb v b) ∙ sym (table-at 64 (λ x. elim (eqb x b) as (λ z. ℕ) [ true ↦ getD items a 0 | false ↦ getD items x 0 ]) v 0 h))
     where
       go : (d : Bool) → plus d (getD items a 0) (unless d (getD items v 0)) ≡ elim d as (λ z. ℕ) [ true ↦ getD items a 0 | false ↦ getD items v 0 ]
@@ -79,7 +80,7 @@ module _ (m : Maps) (long : length (m .items) ≡ 64) where
   as-gifts v h (clear u) = rw (none-has v, only-has u v, eqb-sym u v) (sym (table-at 64 (λ x. elim (eqb x u) as (λ z. ℕ) [ true ↦ 0 | false ↦ getD items x 0 ]) v 0 h))
 
   moved-length : (f : Flow) → length (moved (m .tables) items f) ≡ 64
-  unfolding moved given
+  unfolding moved inSequence given
   moved-length still = long
   moved-length (gift g u) = table-length 64 _
   moved-length (arrival u i) = table-length 64 _

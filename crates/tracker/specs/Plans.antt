@@ -6,6 +6,7 @@ use lib.ListN.{getD}
 use Rattle.sets.specs.Sets.{has, only, those, _∪_, _∩_}
 use Rattle.flow.specs.Box.{closed, containerOf, Tables, feedersOf, feeds, descriptor, name}
 use Rattle.flow.specs.Links.{reach, isFed, used}
+use Rattle.flow.specs.MapBoth.{givenFrom}
 use Rattle.flow.specs.Calls.{Kind, start, openName, create, pipe, device, dup, close, read, write, truncate, mapRead, mapBoth, unmap, unlink, rename, link, fork, exit, label, Flow, still, gift, arrival, exchange, copy, clear, block, flowBy}
 use Rattle.store.specs.declared.Plan.{Plan}
 use Rattle.store.specs.Maps.{Maps, files, fileSet, containerSet, filesIn}
@@ -22,12 +23,12 @@ nothing = plan 0 0 0 0 0
 abbrev pub giving : ℕ → ℕ → Plan
 giving x r = plan 0 x r 0 0
 
--- what a flow gives; a copy empties its receiver first
+-- what a flow gives; the second gift of an exchange is of what its giver then holds; a copy empties its receiver first
 unfoldable pub planOf : Maps → Flow → Plan
 planOf m still = nothing
 planOf m (gift g u) = giving (getD (m .items) g 0) (reach (m .tables) u)
 planOf m (arrival u i) = giving (only i) (reach (m .tables) u)
-planOf m (exchange a b) = plan 0 (getD (m .items) a 0) (reach (m .tables) b) (getD (m .items) b 0) (reach (m .tables) a)
+planOf m (exchange a b) = plan 0 (getD (m .items) a 0) (reach (m .tables) b) (getD (givenFrom (m .tables) (m .items) a b) b 0) (reach (m .tables) a)
 planOf m (copy a b) = plan (only b) (getD (m .items) a 0) (only b) 0 0
 planOf m (clear u) = nothing
 

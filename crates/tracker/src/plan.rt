@@ -62,11 +62,13 @@ pub fn plan_of(words: &[u64; 97], descriptors: &[u8; 512], names: &[u8; 128], q:
         12 => {
             let to = descriptor(descriptors, Process(p), Descriptor(a));
             let own = DEVICES + p;
+            let first = items(words, Container(to));
             Plan {
                 empty: 0,
-                given: items(words, Container(to)),
+                given: first,
                 to: reach(words, Container(own)),
-                given2: items(words, Container(own)),
+                // What the process then holds.
+                given2: items(words, Container(own)) | first,
                 to2: reach(words, Container(to)),
             }
         }

@@ -111,9 +111,12 @@ impl State {
         Ok(Effect { flow, change: Change::MapRead(process, container) })
     }
 
+    /// The read, then the write of what the process then holds.
     fn admit_map_both(&self, process: Process, descriptor: Descriptor) -> Admitted {
         let container = self.opened(process, descriptor)?;
-        let flow = Flow([self.reading(process, container), self.writing(process, container)]);
+        let reading = self.reading(process, container);
+        let writing = self.writing(process, container);
+        let flow = Flow([reading, Gift { items: writing.items | reading.items, ..writing }]);
         Ok(Effect { flow, change: Change::MapBoth(process, container) })
     }
 

@@ -1,0 +1,75 @@
+"""Document 02, Paper 3: map both in sequence, beside document 01's form."""
+
+from typing import List, Tuple
+from unittest import mock
+
+from model import tracker
+from model.checks import Checks, Options
+from model.contents import RecordStep, call_of
+from model.generate import generate_records
+from model.limits import Kind
+from model.records import Call, encode, forbid
+from model.test_random import ENOUGH_CASES, RECORDS, mix_of, state_faults
+from model.tracker import Answer, State, Tracker
+
+
+def map_both_at_once(state: State, call: Call) -> None:
+    """As read and as write, both from the state before; then the links."""
+    container = state.descriptors[call.process, call.a]
+    from_container, from_process = state.items[container], state.items[call.caller]
+    state.give(call.caller, from_container)
+    state.give(container, from_process)
+    state.links.update([(container, call.caller), (call.caller, container)])
+
+
+def by_sequence(state: State, records: List[bytes]) -> List[Tuple[Answer, State]]:
+    """What each record gets, and the state after it."""
+    model = Tracker()
+    model.state = state
+    return [(model.answer_record(data)[0], model.state) for data in records]
+
+
+def at_once(state: State, records: List[bytes]) -> List[Tuple[Answer, State]]:
+    """The same by document 01's form."""
+    with mock.patch.dict(tracker.EFFECTS, {Kind.MAP_BOTH: map_both_at_once}):
+        return by_sequence(state, records)
+
+
+def has_more(before: State, data: bytes) -> bool:
+    """Whether the second gift has items for others that document 01's form does not give them."""
+    call = call_of(RecordStep(data))
+    if call is None or call.kind != Kind.MAP_BOTH or call.process not in before.live:
+        return False
+    container = before.descriptors.get((call.process, call.a))
+    if container is None or call.b or call.c:
+        return False
+    more = before.items[container] - before.items[call.caller]
+    return bool(more) and len(before.reach(container)) > 1
+
+
+def test_forms_agree(checks: Checks, options: Options) -> None:
+    """Each record of a log gets the same by both forms, and leaves the same state."""
+    compared = 0
+    for seed in range(options.seed, options.seed + options.cases):
+        records = generate_records(seed, RECORDS, mix_of(seed))
+        now, former = by_sequence(State(), records), at_once(State(), records)
+        faults = [(n, f"{x[0]}, {y[0]}") for n, (x, y) in enumerate(zip(now, former)) if x != y]
+        checks.seeded("test_forms_agree", seed, faults)
+        states = [State()] + [state for _, state in now]
+        compared += sum(map(has_more, states, records))
+    if options.cases >= ENOUGH_CASES:
+        checks.true("forms: second gifts that have more", compared > options.cases // 10, str(compared))
+
+
+def test_forms_differ(checks: Checks, options: Options) -> None:
+    """In a state that no record makes they differ: 24 links to process 1, which lacks its item."""
+    torn = State(live={0, 1}, links={(24, 9)}, names={5: 24}, descriptors={(0, 0): 24, (1, 0): 24})
+    torn.items[24] = frozenset({2})
+    ruled = torn.copy()
+    ruled.rules.append(forbid(2, [9]))
+    faults = ["a linked container lacks an item of its feeder"]
+    checks.equal("torn: its fault", state_faults(torn), faults)
+    for form, items, answer in ((by_sequence, {2}, "inhibit 0"), (at_once, set(), "allow")):
+        call = [encode(Call(Kind.MAP_BOTH, 0, 0))]
+        checks.equal(f"torn: {form.__name__}", form(torn, call)[0][1].items[9], items)
+        checks.equal(f"torn: {form.__name__}, a rule", str(form(ruled, call)[0][0]), answer)
