@@ -88,10 +88,11 @@ FormsAgree =
 unfoldable pub twoReaders : List ℕ
 twoReaders = call start 0 0 0 0 ++ call start 1 0 0 0 ++ call create 0 5 0 24 ++ call openName 1 5 0 0 ++ call mapRead 1 0 0 0
 
--- and 24 holds item 2, while process 1 (container 9), which it links to, holds nothing
+-- and 24 holds item 2, while process 1 (container 9) holds nothing
 unfoldable pub torn : List Rule → State
 torn rules = let s = runLog fresh twoReaders .state in record { tables = s .tables; items = set (s .items) 24 (only 2); rules = rules }
 
+-- although 24 links to it
 unfoldable pub Torn : Type 0
 Torn = (rules : List Rule) → (linked (torn rules .tables) 24 9 ≡ true) × (holds (torn rules) 24 2 ≡ true) × (holds (torn rules) 9 2 ≡ false)
 
