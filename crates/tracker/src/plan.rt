@@ -8,11 +8,15 @@ use store::numbers::Container;
 use store::numbers::Descriptor;
 use store::numbers::Process;
 use store::spread::reach;
+ghost use Prim.Native.Nat.{ℕ, _<_};
 ghost use mathlib.Core.Path.{_≡_};
+ghost use mathlib.Core.List.{List};
+ghost use Rattle.flow.specs.Box.{containerCount};
+ghost use Rattle.flow.specs.Calls.{exchange};
 ghost use Rattle.flow.specs.Records.{kindOf};
-ghost use Rattle.store.specs.Maps.{mapsBefore};
+ghost use Rattle.store.specs.Maps.{view, mapsBefore};
 ghost use Rattle.tracker.specs.Rows.{Passes};
-ghost use Rattle.tracker.specs.Plans.{planAt, giving as givingTo, givesAt};
+ghost use Rattle.tracker.specs.Plans.{planOf, planAt, giving as givingTo, givesAt};
 
 // Whether calls of this kind can give an item to a container.
 pub fn gives(kind: u8) -> bool
@@ -39,6 +43,21 @@ pub fn giving(x: u64, r: u64) -> Plan
     }
 }
 
+// The second is given what the first holds, then the first what the second then holds.
+fn exchanging(words: &[u64; 97], first: Container, second: Container) -> Plan
+    requires { ⌜ (first .0 < containerCount) × (second .0 < containerCount) ⌝ }
+    ensures { λ r. ⌜ ((d n : List ℕ) → r ≡ planOf (view (now (words .entry)) d n) (exchange (first .0) (second .0))) ⌝ }
+{
+    let given = items(words, first);
+    Plan {
+        empty: 0,
+        given: given,
+        to: reach(words, second),
+        given2: items(words, second) | given,
+        to2: reach(words, first),
+    }
+}
+
 // The plan of a call that is not refused.
 pub fn plan_of(words: &[u64; 97], descriptors: &[u8; 512], names: &[u8; 128], q: Call) -> Plan
     requires { ⌜ Passes (now words) (now descriptors) (now names) q ⌝ }
@@ -62,15 +81,7 @@ pub fn plan_of(words: &[u64; 97], descriptors: &[u8; 512], names: &[u8; 128], q:
         12 => {
             let to = descriptor(descriptors, Process(p), Descriptor(a));
             let own = DEVICES + p;
-            let first = items(words, Container(to));
-            Plan {
-                empty: 0,
-                given: first,
-                to: reach(words, Container(own)),
-                // What the process then holds.
-                given2: items(words, Container(own)) | first,
-                to2: reach(words, Container(to)),
-            }
+            exchanging(words, Container(to), Container(own))
         }
         17 => {
             let child = sets::with(0, DEVICES + a);
