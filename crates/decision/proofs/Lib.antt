@@ -6,6 +6,7 @@ pub mod LoadLaws
 pub mod LogLaws
 pub mod CodeLaws
 pub mod TwoRuns
+pub mod AtOnce
 pub mod HookLaws
 pub mod Stored
 pub mod ListLaws

@@ -78,7 +78,7 @@ module _ (steps : List Step) (x : ℕ → Monitor) (a : ℕ → Answer) (ch : Ch
   chain-view zero = ch .made
   chain-view (suc k) = next-step k _ refl (chain-sound k) .1 ∙ ap (λ (s : State). stepState s (stepAt steps k)) (chain-view k)
 
-  chain-answer : (n : ℕ) (bytes : List ℕ) → stepAt steps n ≡ entry bytes → wordOf (a n) ≡ answer (stateAt steps n) bytes
+  pub chain-answer : (n : ℕ) (bytes : List ℕ) → stepAt steps n ≡ entry bytes → wordOf (a n) ≡ answer (stateAt steps n) bytes
   unfolding answer outcome
   chain-answer n bytes e = rw (← (chain-view n)) (ch .answers n bytes e .answer (chain-sound n))
 
