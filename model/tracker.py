@@ -1,6 +1,6 @@
 """The tracker of document 01 as plain sets, dictionaries and graph search.
 
-Papers 1 and 2 of document 02 are in it.
+Papers 1 to 3 of document 02 are in it.
 
 A State is never changed once it is in a Tracker: each accepted record puts a
 new State in its place, so a caller may keep an earlier one.
