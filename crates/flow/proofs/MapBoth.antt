@@ -7,8 +7,8 @@ use lib.ListN.{getD}
 use Rattle.sets.specs.Sets.{has}
 use Rattle.sets.proofs.Members.{has-lt, same-set}
 use Rattle.flow.specs.Box.{Tables, feeds}
-use Rattle.flow.specs.Links.{Reaches, here, onward, reach, given}
-use Rattle.flow.specs.MapBoth.{givenFrom, inSequence, atOnce}
+use Rattle.flow.specs.Links.{Reaches, here, onward, reach, given, givenFrom}
+use Rattle.flow.specs.MapBoth.{inSequence, atOnce}
 use Rattle.flow.proofs.TableLaws.{table-at, table-length, is-table}
 use Rattle.flow.proofs.Reach.{reach-leads, reach-lt, reach-exact}
 use Rattle.flow.proofs.Moves.{inList, given-has, Along}

@@ -10,8 +10,8 @@ use borrow.Author.Tests.{eqb-true, eq-eqb, ne-eqb}
 use Rattle.sets.specs.Sets.{has, only, _∪_}
 use Rattle.sets.proofs.Members.{union-has, only-has, none-has}
 use Rattle.flow.specs.Box.{Tables, State, itemsOf, holds, feeds}
-use Rattle.flow.specs.Links.{linked, reach, given, used}
-use Rattle.flow.specs.MapBoth.{givenFrom, inSequence}
+use Rattle.flow.specs.Links.{linked, reach, given, givenFrom, used}
+use Rattle.flow.specs.MapBoth.{inSequence}
 use Rattle.flow.specs.Calls.{Flow, still, gift, arrival, exchange, copy, clear, moved}
 use Rattle.flow.proofs.Bools.{or-elim, or-l, or-r, and-l, and-r, and-i, by, no-both, choice, chosen-l, chosen-r}
 use Rattle.flow.proofs.TableLaws.{table-at}

@@ -14,11 +14,11 @@ use Rattle.flow.specs.Verdicts.{diversion, mayDivert, breaksNone, stoppe
 use Rattle.flow.specs.Queries.{holders, holdersRefusal, replyBy, holdersQuery, sliceBy, holdersSlice}
 use Rattle.flow.specs.Contents.{flowed, changed, contentsAfter, linkedTo, stepContents, stepState, stateAt, runAt, labelOf, itemLabelled}
 use Rattle.flow.specs.Runs.{outcomeOf, call, shared, filed, renamed, spare, thirtyTwo, allowed, starred, Starred, further, Further, lacking, Lacking, total, remembered, copying, carried, chained, Moves, repliedIn, replied, falling, asked, HoldersAsked, twoSides, mappingBoth, MappingBoth}
-use Rattle.flow.specs.AtOnce.{movedAtOnce, afterAtOnce, verdictAtOnce, outcomeOfCallAtOnce, outcomeOfAtOnce, outcomeAtOnce, stateAfterAtOnce, nextAtOnce, twoReaders, torn, Torn, FormsDiffer}
+use Rattle.flow.specs.AtOnce.{movedAtOnce, afterAtOnce, verdictAtOnce, outcomeOfCallAtOnce, outcomeOfAtOnce, outcomeAtOnce, stateAfterAtOnce, nextAtOnce, torn, Torn, FormsDiffer}
 
 -- together, since each would unfold the same definitions
 all-runs : Starred × Further × Lacking × HoldersAsked × MappingBoth × FormsDiffer × Torn × Moves
-unfolding has only _∪_ _∩_ bit thoseFrom those without tableFrom table someBelow isIn firstThat _⇒_ isDevice isProcess isFile fresh itemsOf feedersOf feeds descriptor name isTarget linked meets through throughEach closure reach given mapped used kindNumber withLive withDescriptors withNames withLinks putBlock block isFed tablesBy flowBy change moved ended itemsAfter after holds breaks broken firstBroken lowestBroken forbids byteAt tagOf statedLength recordLength valueOf cutShort knownTag tagLength wrongLength kinds kindOf callBy callFrom callIn conditionOf numberFrom setIn ruleWith ruleIn frameTests contentOf readingBy reading callRead callOf recordsIn recordsOf inRange ranges fieldsFit isLive isOpen isBound dead taken needOf missing sameDescriptors noFile callTests itemsFit substituteFits sameItems fieldTests ruleTests noTables isNone isKind diversion mayDivert breaksNone stopped verdictBy verdict outcomeOfCall outcomeOfRule outcomeRead outcome answerOf answer withRule stateAfter next answerAll runLog flowed changed contentsAfter linkedTo stepContents stepState stateAt runAt labelOf itemLabelled outcomeOf call shared filed renamed spare thirtyTwo allowed starred Starred total remembered copying carried chained Moves further Further lacking Lacking repliedIn replied falling asked HoldersAsked holders holdersRefusal replyBy holdersQuery sliceBy holdersSlice risingFrom rising twoSides mappingBoth MappingBoth inSequence atOnce movedAtOnce afterAtOnce verdictAtOnce outcomeOfCallAtOnce outcomeOfAtOnce outcomeAtOnce stateAfterAtOnce nextAtOnce twoReaders torn Torn FormsDiffer
+unfolding has only _∪_ _∩_ bit thoseFrom those without tableFrom table someBelow isIn firstThat _⇒_ isDevice isProcess isFile fresh itemsOf feedersOf feeds descriptor name isTarget linked meets through throughEach closure reach given mapped used kindNumber withLive withDescriptors withNames withLinks putBlock block isFed tablesBy flowBy change moved ended itemsAfter after holds breaks broken firstBroken lowestBroken forbids byteAt tagOf statedLength recordLength valueOf cutShort knownTag tagLength wrongLength kinds kindOf callBy callFrom callIn conditionOf numberFrom setIn ruleWith ruleIn frameTests contentOf readingBy reading callRead callOf recordsIn recordsOf inRange ranges fieldsFit isLive isOpen isBound dead taken needOf missing sameDescriptors noFile callTests itemsFit substituteFits sameItems fieldTests ruleTests noTables isNone isKind diversion mayDivert breaksNone stopped verdictBy verdict outcomeOfCall outcomeOfRule outcomeRead outcome answerOf answer withRule stateAfter next answerAll runLog flowed changed contentsAfter linkedTo stepContents stepState stateAt runAt labelOf itemLabelled outcomeOf call shared filed renamed spare thirtyTwo allowed starred Starred total remembered copying carried chained Moves further Further lacking Lacking repliedIn replied falling asked HoldersAsked holders holdersRefusal replyBy holdersQuery sliceBy holdersSlice risingFrom rising twoSides mappingBoth MappingBoth inSequence atOnce movedAtOnce afterAtOnce verdictAtOnce outcomeOfCallAtOnce outcomeOfAtOnce outcomeAtOnce stateAfterAtOnce nextAtOnce torn Torn FormsDiffer
 all-runs = ((refl, refl), refl, refl, refl, refl, (refl, refl, refl, refl), (λ rules. (refl, refl, refl)), (refl, refl, refl, refl, refl, refl, refl, refl, refl, refl))
 
 pub starred-runs : Starred

@@ -1,22 +1,22 @@
 -- 02, Paper 3: no answer or state changes from document 01's form of map both, in trackers that records make from a fresh one.
-use Prim.Native.Nat.{ℕ, zero, suc}
+use Prim.Native.Nat.{ℕ, zero, suc, _<_}
 use mathlib.Core.Path.{_≡_}
 use mathlib.Core.Bool.{true, false}
-use mathlib.Core.List.{List, [], _∷_, _++_}
+use mathlib.Core.List.{List, [], _∷_, map}
 use mathlib.Core.Option.{Option, none, some}
-use lib.ListN.{set}
-use Rattle.sets.specs.Sets.{only}
+use lib.ListN.{getD, set}
+use Rattle.sets.specs.Sets.{only, _∪_}
 use Rattle.flow.specs.Lists.{firstThat}
-use Rattle.flow.specs.Box.{forbid, Rule, Tables, State, fresh, itemsOf, holds}
-use Rattle.flow.specs.Links.{linked}
+use Rattle.flow.specs.Box.{containerCount, forbid, Rule, Tables, State, fresh, itemsOf, holds}
+use Rattle.flow.specs.Links.{givenFrom, linked}
 use Rattle.flow.specs.MapBoth.{atOnce}
-use Rattle.flow.specs.Calls.{Kind, start, openName, create, read, write, mapRead, mapBoth, Call, Flow, still, gift, arrival, exchange, copy, clear, Change, change, moved, after}
+use Rattle.flow.specs.Calls.{Kind, read, write, mapBoth, Call, Flow, still, gift, arrival, exchange, copy, clear, Change, change, moved, after}
 use Rattle.flow.specs.Rules.{lowestBroken}
 use Rattle.flow.specs.Records.{Reading, unreadable, aCall, aRule, reading}
 use Rattle.flow.specs.Refusals.{callTests}
 use Rattle.flow.specs.Verdicts.{Outcome, refuses, loads, allows, inhibits, modifies, verdictBy, outcomeOf, outcome, allow, inhibit, answerOf, answer, withRule, next, runLog}
 use Rattle.flow.specs.Contents.{Step, entry, memory, stepAt, stateAt}
-use Rattle.flow.specs.Runs.{call}
+use Rattle.flow.specs.Runs.{call, twoSides}
 
 -- ---- the sequence on whole states: map both is the read, then the write, each in the state as the one before left it, then the two links
 unfoldable pub MapBothInSequence : Type 0
@@ -26,7 +26,13 @@ MapBothInSequence =
     let links : Change = record { tables = by mapBoth .tables; flow = still } in
     after s (by mapBoth) ≡ after (after (after s (by read)) (by write)) links)
 
--- ---- what follows from document 01's form, by the steps of Calls, Verdicts and Contents: an exchange alone moves items otherwise
+-- ---- document 01's form: what it makes a container hold is what the read and the write, both from the state before, make it hold
+unfoldable pub MapBothAtOnce : Type 0
+MapBothAtOnce =
+    (t : Tables) (items : List ℕ) (c p v : ℕ) → v < containerCount → getD (atOnce t items c p) v 0 ≡ getD (givenFrom t items c p) v 0 ∪ getD (givenFrom t items p c) v 0
+
+-- ---- what follows from document 01's form, definition by definition as in Calls, Verdicts and Contents: an exchange alone moves items
+-- otherwise
 unfoldable pub movedAtOnce : Tables → List ℕ → Flow → List ℕ
 movedAtOnce t items still = moved t items still
 movedAtOnce t items (gift g u) = moved t items (gift g u)
@@ -40,6 +46,7 @@ unfoldable pub afterAtOnce : State → Change → State
 afterAtOnce s x =
     after (record { tables = s .tables; items = movedAtOnce (s .tables) (s .items) (x .flow); rules = s .rules }) (record { tables = x .tables; flow = still })
 
+-- a diverted write is a gift, which moves items alike by both forms
 unfoldable pub verdictAtOnce : State → Call → Outcome
 verdictAtOnce s q = verdictBy s q (lowestBroken (afterAtOnce s (change (s .tables) q)))
 
@@ -84,27 +91,24 @@ FormsAgree =
     (former ≡ s) × ((bytes : List ℕ) → (outcomeAtOnce former bytes ≡ outcome s bytes) × (nextAtOnce former bytes ≡ next s bytes)))
 
 -- ---- the forms differ in a state that no record makes
--- process 0 has 24 open, and process 1 maps it to read
-unfoldable pub twoReaders : List ℕ
-twoReaders = call start 0 0 0 0 ++ call start 1 0 0 0 ++ call create 0 5 0 24 ++ call openName 1 5 0 0 ++ call mapRead 1 0 0 0
-
--- and 24 holds item 2, while process 1 (container 9) holds nothing
+-- 24, with item 1, links to process 1 (container 9), and process 0 (container 8), with item 2, to 25: but 9 and 25 hold nothing
 unfoldable pub torn : List Rule → State
-torn rules = let s = runLog fresh twoReaders .state in record { tables = s .tables; items = set (s .items) 24 (only 2); rules = rules }
+torn rules = let s = runLog fresh twoSides .state in record { tables = s .tables; items = set (set (s .items) 9 0) 25 0; rules = rules }
 
--- although 24 links to it
+-- so 24 links to a container that lacks its item
 unfoldable pub Torn : Type 0
-Torn = (rules : List Rule) → (linked (torn rules .tables) 24 9 ≡ true) × (holds (torn rules) 24 2 ≡ true) × (holds (torn rules) 9 2 ≡ false)
+Torn = (rules : List Rule) → (linked (torn rules .tables) 24 9 ≡ true) × (holds (torn rules) 24 1 ≡ true) × (holds (torn rules) 9 1 ≡ false)
 
--- Process 0 maps 24 both ways. By the sequence process 1 gets item 2, by document 01's form it doesn't; a rule against item 2 in process 1
--- inhibits the one and not the other.
+-- whatever the rules, no list of steps comes to such a state
+unfoldable pub NeverTorn : Type 0
+NeverTorn = (rules : List Rule) (steps : List Step) (k : ℕ) → stateAt steps k ≡ torn rules → ⊥
+
+-- Process 0 maps 24 both ways. By the sequence process 1 gets both items, by document 01's form item 2 alone; what 8, 25 and 24 then hold is
+-- the same. A rule against item 1 in process 1 inhibits the one and not the other.
 unfoldable pub FormsDiffer : Type 0
 FormsDiffer =
     (let bytes = call mapBoth 0 0 0 0 in
-    let against : List Rule = record { condition = forbid 2 (only 9); action = 0; substitute = 0 } ∷ [] in
-    (itemsOf (next (torn []) bytes) 9 ≡ only 2) × (itemsOf (nextAtOnce (torn []) bytes) 9 ≡ 0)
+    let containers : List ℕ = 8 ∷ 25 ∷ 24 ∷ 9 ∷ [] in
+    let against : List Rule = record { condition = forbid 1 (only 9); action = 0; substitute = 0 } ∷ [] in
+    (map (itemsOf (next (torn []) bytes)) containers ≡ 6 ∷ 2 ∷ 6 ∷ 6 ∷ []) × (map (itemsOf (nextAtOnce (torn []) bytes)) containers ≡ 6 ∷ 2 ∷ 6 ∷ 4 ∷ [])
     × (answer (torn against) bytes ≡ inhibit 0) × (answerOf (outcomeAtOnce (torn against) bytes) ≡ allow))
-
--- whatever its rules, no list of steps comes to it
-unfoldable pub NeverTorn : Type 0
-NeverTorn = (rules : List Rule) (steps : List Step) (k : ℕ) → stateAt steps k ≡ torn rules → ⊥

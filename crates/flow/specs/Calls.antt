@@ -1,4 +1,4 @@
--- Document 01, The records: the nineteen calls. A call changes the tables (live processes, links, descriptors, names) and moves items.
+-- Document 01, The records: the nineteen calls; map both by 02, Paper 3. A call changes the tables (live processes, links, descriptors, names) and moves items.
 use Prim.Native.Nat.{ℕ}
 use mathlib.Core.Bool.{Bool, true, false, not, _&&_}
 use mathlib.Core.List.{List, _++_}
@@ -7,8 +7,8 @@ use lib.ListN.{getD, take, drop, replicate, set}
 use Rattle.sets.specs.Sets.{only, without, _∪_}
 use Rattle.flow.specs.Lists.{table}
 use Rattle.flow.specs.Box.{containerCount, descriptorCount, containerOf, slot, closed, Tables, State, feedersOf, feeds, descriptor, name}
-use Rattle.flow.specs.Links.{reach, given, isFed, used}
-use Rattle.flow.specs.MapBoth.{givenFrom, inSequence}
+use Rattle.flow.specs.Links.{reach, given, givenFrom, isFed, used}
+use Rattle.flow.specs.MapBoth.{inSequence}
 
 pub data Kind : Type 0 where
   start : Kind

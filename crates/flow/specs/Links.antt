@@ -47,6 +47,10 @@ reach t u = closure t containerCount (only u)
 unfoldable pub given : List ℕ → ℕ → ℕ → List ℕ
 given items r x = table containerCount (λ v. let y = getD items v 0 in elim (has r v) [ true ↦ y ∪ x | false ↦ y ])
 
+-- what container g holds is given to u
+abbrev pub givenFrom : Tables → List ℕ → ℕ → ℕ → List ℕ
+givenFrom t items g u = given items (reach t u) (getD items g 0)
+
 -- ---- use
 -- a link leads into the file, pipe or device c
 unfoldable pub isFed : Tables → ℕ → Bool

@@ -250,17 +250,18 @@ mappingBoth =
     -- process 0 maps 24 both ways: both items are on both sides, and what comes later to either end comes to all
     check (twoSides ++ call mapBoth 0 0 0 0) (allowed 10) (holding 8 6 ∷ holding 25 6 ∷ holding 24 6 ∷ holding 9 6 ∷ [])
     ∷ check
-    (twoSides ++ call mapBoth 0 0 0 0 ++ call label 0 25 3 0)
-    (allowed 11)
-    (holding 8 14 ∷ holding 25 14 ∷ holding 24 14 ∷ holding 9 14 ∷ [])
-    -- where item 2 may not be in process 1, or item 1 not in 25, it is inhibited, and no link is laid: item 4 on 24 stays on its side
+    (twoSides ++ call mapBoth 0 0 0 0 ++ call label 0 25 3 0 ++ call label 0 24 4 0)
+    (allowed 12)
+    (holding 8 30 ∷ holding 25 30 ∷ holding 24 30 ∷ holding 9 30 ∷ [])
+    -- where item 2 may not be in process 1, or item 1 not in 25, it is inhibited, and no link is laid: item 4 on 24 stays on its side, and
+    -- there is nothing to unmap
     ∷ check
-    (setRule 0x11 2 0 0 2 0 0 0 ++ twoSides ++ call mapBoth 0 0 0 0 ++ call label 0 24 4 0)
-    (rule 0 ∷ allowed 9 ++ inhibit 0 ∷ allow ∷ [])
+    (setRule 0x11 2 0 0 2 0 0 0 ++ twoSides ++ call mapBoth 0 0 0 0 ++ call label 0 24 4 0 ++ call unmap 0 24 0 0)
+    (rule 0 ∷ allowed 9 ++ inhibit 0 ∷ allow ∷ refused 16 ∷ [])
     (holding 8 4 ∷ holding 25 4 ∷ holding 24 18 ∷ holding 9 18 ∷ [])
     ∷ check
-    (setRule 0x11 1 2 0 0 0 0 0 ++ twoSides ++ call mapBoth 0 0 0 0 ++ call label 0 24 4 0)
-    (rule 0 ∷ allowed 9 ++ inhibit 0 ∷ allow ∷ [])
+    (setRule 0x11 1 2 0 0 0 0 0 ++ twoSides ++ call mapBoth 0 0 0 0 ++ call label 0 24 4 0 ++ call unmap 0 24 0 0)
+    (rule 0 ∷ allowed 9 ++ inhibit 0 ∷ allow ∷ refused 16 ∷ [])
     (holding 8 4 ∷ holding 25 4 ∷ holding 24 18 ∷ holding 9 18 ∷ [])
     ∷ []
 

@@ -1,16 +1,14 @@
 -- Laws of unions, of two sets and of all sets of a list.
-use Prim.Native.Nat.{ℕ, zero, suc, _+_, _^_, _≤_, _<_}
-use native.Mathlib.Omega.{arith}
+use Prim.Native.Nat.{ℕ, zero, suc, _+_, _<_}
 use native.Mathlib.Nat.{not-suc-le-zero, le-of-suc-le-suc}
 use native.Mathlib.Numerals.{add-one}
 use mathlib.Core.Path.{_≡_, refl, sym, ap, _∙_}
 use mathlib.Core.Bool.{true, or-assoc, or-true}
 use mathlib.Core.List.{List, [], _∷_}
-use lib.Bits.{or-lt, or-comm as bits-comm, or-zero-l}
+use lib.Bits.{or-comm as bits-comm, or-zero-l}
 use lib.ListN.{length, getD, take}
-use lib.Pow.{pow-mono}
 use Rattle.sets.specs.Sets.{has, _∪_, unionOf}
-use Rattle.sets.proofs.Members.{union-has, same-members, lt-pow}
+use Rattle.sets.proofs.Members.{union-has, same-set}
 
 -- ---- what joins all elements, over one element more
 module _ {B : Type 0} (all : List ℕ → B) (join : B → B → B) (one : ℕ → B)
@@ -28,18 +26,8 @@ module _ {B : Type 0} (all : List ℕ → B) (join : B → B → B) (one : ℕ �
   all-more l i h = rw (add-one i) (all-suc l i h)
 
 -- ---- two sets
-lt-pow-of : (x n : ℕ) → x ≤ n → x < 2 ^ n
-lt-pow-of x n h = omega (arith, lt-pow x, pow-mono h)
-
 pub union-assoc : (x y z : ℕ) → (x ∪ y) ∪ z ≡ x ∪ (y ∪ z)
-unfolding _∪_
-union-assoc x y z =
-    let n : ℕ = x + y + z in
-    let hx : x < 2 ^ n = lt-pow-of x n (omega arith) in
-    let hy : y < 2 ^ n = lt-pow-of y n (omega arith) in
-    let hz : z < 2 ^ n = lt-pow-of z n (omega arith) in
-    same-members n ((x ∪ y) ∪ z) (x ∪ (y ∪ z)) (or-lt n _ z (or-lt n x y hx hy) hz) (or-lt n x _ hx (or-lt n y z hy hz))
-    (λ i h. simp union-has (or-assoc (has x i) (has y i) (has z i)))
+union-assoc x y z = same-set _ _ (λ i. simp union-has (or-assoc (has x i) (has y i) (has z i)))
 
 pub union-comm : (x y : ℕ) → x ∪ y ≡ y ∪ x
 unfolding _∪_

@@ -14,8 +14,8 @@ use Rattle.sets.specs.Sets.{has, only, _∪_}
 use Rattle.sets.proofs.Members.{those-has, none-has, only-has, union-has, without-has, eqb-sym}
 use Rattle.flow.specs.Lists.{firstThat, refusalFrom}
 use Rattle.flow.specs.Box.{containerOf, Tables, descriptor}
-use Rattle.flow.specs.Links.{reach, given, isFed, used}
-use Rattle.flow.specs.MapBoth.{givenFrom, inSequence}
+use Rattle.flow.specs.Links.{reach, given, givenFrom, isFed, used}
+use Rattle.flow.specs.MapBoth.{inSequence}
 use Rattle.flow.specs.Calls.{Kind, start, openName, create, pipe, device, dup, close, read, write, truncate, mapRead, mapBoth, unmap, unlink, rename, link, fork, exit, label, Call as Asked, Flow, still, gift, arrival, exchange, copy, clear, Change, withLive, withLinks, withDescriptors, tablesBy, flowBy, change, moved, ended, itemsAfter}
 use Rattle.flow.specs.Records.{kindOf, callBy, callFrom}
 use Rattle.flow.specs.Refusals.{ranges, inRange, callTests}

@@ -5,8 +5,7 @@ use mathlib.Core.Option.{Option, none, some}
 use lib.ListN.{getD}
 use Rattle.sets.specs.Sets.{has, only, those, _∪_, _∩_}
 use Rattle.flow.specs.Box.{closed, containerOf, Tables, feedersOf, feeds, descriptor, name}
-use Rattle.flow.specs.Links.{reach, isFed, used}
-use Rattle.flow.specs.MapBoth.{givenFrom}
+use Rattle.flow.specs.Links.{reach, givenFrom, isFed, used}
 use Rattle.flow.specs.Calls.{Kind, start, openName, create, pipe, device, dup, close, read, write, truncate, mapRead, mapBoth, unmap, unlink, rename, link, fork, exit, label, Flow, still, gift, arrival, exchange, copy, clear, block, flowBy}
 use Rattle.store.specs.declared.Plan.{Plan}
 use Rattle.store.specs.Maps.{Maps, files, fileSet, containerSet, filesIn}
