@@ -58,18 +58,22 @@ def test_forms_agree(checks: Checks, options: Options) -> None:
         states = [State()] + [state for _, state in now]
         compared += sum(map(has_more, states, records))
     if options.cases >= ENOUGH_CASES:
-        checks.true("forms: second gifts that have more", compared > options.cases // 10, str(compared))
+        enough = compared > options.cases // 10
+        checks.true("forms: second gifts that have more", enough, str(compared))
 
 
 def test_forms_differ(checks: Checks, options: Options) -> None:
-    """In a state that no record makes they differ: 24 links to process 1, which lacks its item."""
-    torn = State(live={0, 1}, links={(24, 9)}, names={5: 24}, descriptors={(0, 0): 24, (1, 0): 24})
-    torn.items[24] = frozenset({2})
+    """They differ in a state that no record makes: 9 and 25 lack what is linked to them."""
+    torn = State(live={0, 1}, links={(24, 9), (8, 25), (25, 8)}, names={0: 24, 1: 25})
+    torn.descriptors.update({(0, 0): 24, (0, 1): 25, (1, 0): 24})
+    torn.items.update({24: frozenset({1}), 8: frozenset({2})})
     ruled = torn.copy()
-    ruled.rules.append(forbid(2, [9]))
+    ruled.rules.append(forbid(1, [9]))
     faults = ["a linked container lacks an item of its feeder"]
     checks.equal("torn: its fault", state_faults(torn), faults)
-    for form, items, answer in ((by_sequence, {2}, "inhibit 0"), (at_once, set(), "allow")):
+    for form, second, answer in ((by_sequence, {1, 2}, "inhibit 0"), (at_once, {2}, "allow")):
         call = [encode(Call(Kind.MAP_BOTH, 0, 0))]
-        checks.equal(f"torn: {form.__name__}", form(torn, call)[0][1].items[9], items)
+        items = form(torn, call)[0][1].items
+        held = [items[container] for container in (8, 25, 24, 9)]
+        checks.equal(f"torn: {form.__name__}", held, [{1, 2}, {1}, {1, 2}, second])
         checks.equal(f"torn: {form.__name__}, a rule", str(form(ruled, call)[0][0]), answer)

@@ -18,7 +18,7 @@ from tests.logtests.shorten import report
 RUNS = ROOT / "tests" / "logtests" / "runs.txt"
 RUN_NAMES = "CDEFGHIJKLMN"
 PAPERS = ROOT / "tests" / "logtests" / "papers.txt"
-PAPER_NUMBERS = {"2"}
+PAPER_NUMBERS = {"2", "3"}
 LOGS = ROOT / "logs"
 PAUSE = 0.05  # seconds between two pieces of an input
 CUT = f"refused {Refusal.CUT_SHORT}"

@@ -1,6 +1,6 @@
 """Programs with a planted fault, made from the model: the shortcuts that document 01 names.
 
-Some answer as before a paper of document 02.
+Some answer as before a paper of document 02, or follow one wrongly.
 """
 
 import compileall

@@ -1,4 +1,4 @@
--- The code goes by document 01's form of map both too: a chain has the states and answers of the definitions, and there the forms agree.
+-- A chain has the states and answers of the definitions, and there the forms agree.
 use mathlib.Core.Path.{sym, ap, _∙_}
 use Rattle.flow.specs.Verdicts.{answerOf, answer}
 use Rattle.flow.specs.AtOnce.{FormsAgree}

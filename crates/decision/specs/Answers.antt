@@ -42,8 +42,8 @@ unfoldable pub Sound : Monitor → Type 0
 Sound m = lowestBroken (view m) ≡ none
 
 -- What the monitor m answers to what was read, x. Of any monitor: the refusal is that of document 01's tests, and a refused or inhibited record
--- gives back the monitor that it met, equal field by field. Of a sound one: word and numbers are those of document 01, and so is the state
--- after it, which is sound again.
+-- gives back the monitor that it met, equal field by field. Of a sound one: word and numbers are those of the definitions, and so is the
+-- state after it, which is sound again.
 pub record Answers (m : Monitor) (x : Reading) (r : Answered) : Type 0 where
   pub refusal : (n : ℕ) → r .answer ≡ Refused n ↔ firstThat (testsOf (view m) x) ≡ some n
   pub refused-kept : (n : ℕ) → r .answer ≡ Refused n → r .monitor ≡ m

@@ -1,4 +1,4 @@
--- 02, Paper 3, of the code that runs: no answer or state is another than by document 01's form of map both.
+-- 02, Paper 3, of the code that runs: no answer or state changes from document 01's form of map both.
 use Prim.Native.Nat.{ℕ}
 use mathlib.Core.Path.{_≡_}
 use mathlib.Core.List.{List}

@@ -1,4 +1,4 @@
--- The parts of a call together: refusals, tables, items and what is released make the maps that document 01 says.
+-- The parts of a call together: refusals, tables, items and what is released make the maps that the definitions say.
 use Prim.Native.Nat.{ℕ, zero, suc, _<_}
 use native.Mathlib.Omega.{arith}
 use mathlib.Core.Path.{_≡_, refl, sym, ap, ap₂, _∙_}

@@ -15,7 +15,7 @@ unfoldable pub refusalOf : Work → Option ℕ
 refusalOf Done = none
 refusalOf (Refused n) = some n
 
--- Of the call q on the tracker t: refusal and maps are those of document 01, and a refused call gives back the tracker that it met.
+-- Of the call q on the tracker t: refusal and maps are those of the definitions, and a refused call gives back the tracker that it met.
 pub record AnswersCall (t : Tracker) (q : Option Call) (r : Called) : Type 0 where
   pub works : done (refusalOf (r .work)) (view (r .tracker)) ≡ worked (view t) q
   pub kept : (n : ℕ) → r .work ≡ Refused n → r .tracker ≡ t

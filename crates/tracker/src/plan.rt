@@ -43,7 +43,7 @@ pub fn giving(x: u64, r: u64) -> Plan
     }
 }
 
-// The second is given what the first holds, then the first what the second then holds.
+// The second is given what the first holds, then the first what the second then holds (map both; document 02, Paper 3).
 fn exchanging(words: &[u64; 97], first: Container, second: Container) -> Plan
     requires { ⌜ (first .0 < containerCount) × (second .0 < containerCount) ⌝ }
     ensures { λ r. ⌜ ((d n : List ℕ) → r ≡ planOf (view (now (words .entry)) d n) (exchange (first .0) (second .0))) ⌝ }

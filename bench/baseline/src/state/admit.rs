@@ -111,12 +111,12 @@ impl State {
         Ok(Effect { flow, change: Change::MapRead(process, container) })
     }
 
-    /// The read, then the write of what the process then holds.
+    /// The read, then the write of what the process then holds (document 02, Paper 3).
     fn admit_map_both(&self, process: Process, descriptor: Descriptor) -> Admitted {
         let container = self.opened(process, descriptor)?;
         let reading = self.reading(process, container);
-        let writing = self.writing(process, container);
-        let flow = Flow([reading, Gift { items: writing.items | reading.items, ..writing }]);
+        let writing = self.gift(self.items(process.container()) | reading.items, container);
+        let flow = Flow([reading, writing]);
         Ok(Effect { flow, change: Change::MapBoth(process, container) })
     }
 
