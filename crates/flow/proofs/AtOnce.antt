@@ -2,27 +2,24 @@
 use Prim.Native.Nat.{ℕ, zero, suc}
 use native.Mathlib.Omega.{arith}
 use mathlib.Core.Path.{_≡_, refl, sym, ap, _∙_}
-use mathlib.Core.Bool.{Bool, true, false, not, _&&_, _||_}
+use mathlib.Core.Bool.{Bool, true, false, not, _&&_}
 use mathlib.Core.List.{List}
 use mathlib.Core.Option.{Option, none, some}
-use lib.ListN.{getD}
-use Rattle.sets.specs.Sets.{has, _∪_}
-use Rattle.sets.proofs.Members.{union-has, same-set}
 use Rattle.flow.specs.Lists.{firstThat}
 use Rattle.flow.specs.Box.{containerOf, Tables, State, descriptor}
-use Rattle.flow.specs.Links.{reach, given, givenFrom, used}
-use Rattle.flow.specs.MapBoth.{inSequence, atOnce}
+use Rattle.flow.specs.Links.{given, givenFrom, used}
+use Rattle.flow.specs.MapBoth.{inSequence}
 use Rattle.flow.specs.Calls.{mapBoth, Call, Flow, still, gift, arrival, exchange, copy, clear, tablesBy, flowBy, Change, change, moved, ended, itemsAfter, after}
 use Rattle.flow.specs.Rules.{lowestBroken}
 use Rattle.flow.specs.Records.{Reading, unreadable, aCall, aRule, reading, callOf}
 use Rattle.flow.specs.Refusals.{callTests}
 use Rattle.flow.specs.Verdicts.{Outcome, refuses, loads, allows, inhibits, modifies, verdictBy, verdict, outcomeOfCall, outcomeOf, outcome, stateAfter, next}
 use Rattle.flow.specs.Contents.{Step, entry, memory, stepState, stepAt, stateAt}
-use Rattle.flow.specs.AtOnce.{MapBothInSequence, MapBothAtOnce, movedAtOnce, afterAtOnce, verdictAtOnce, outcomeOfCallAtOnce, outcomeOfAtOnce, outcomeAtOnce, stateAfterAtOnce, nextAtOnce, stepStateAtOnce, stateAtOnce, FormsAgree, torn, Torn, NeverTorn}
+use Rattle.flow.specs.AtOnce.{MapBothInSequence, movedAtOnce, afterAtOnce, verdictAtOnce, outcomeOfCallAtOnce, outcomeOfAtOnce, outcomeAtOnce, stateAfterAtOnce, nextAtOnce, stepStateAtOnce, stateAtOnce, FormsAgree, torn, Torn, NeverTorn}
 use Rattle.flow.specs.Kept.{Kept, EveryRecordKeeps}
 use Rattle.flow.proofs.Bools.{no-both}
 use Rattle.flow.proofs.TableLaws.{table-length, is-table}
-use Rattle.flow.proofs.Moves.{inList, given-has, Fit}
+use Rattle.flow.proofs.Moves.{Fit}
 use Rattle.flow.proofs.MapBoth.{as-at-once}
 use Rattle.flow.proofs.Accepted.{Accepted, accepted, fits-after}
 use Rattle.flow.proofs.Outcomes.{Sound}
@@ -46,20 +43,6 @@ map-both-in-sequence s p a =
     let c : ℕ = descriptor t p a in
     ap (λ (l : List ℕ). after (record { tables = t; items = l; rules = s .rules }) (record { tables = tablesBy t p a 0 0 mapBoth; flow = still }))
     (sym (given-after t _ (containerOf p) c ∙ ap (λ (l : List ℕ). givenFrom t l (containerOf p) c) (given-after t (s .items) c (containerOf p))))
-
--- ---- document 01's form
-pub map-both-at-once : MapBothAtOnce
-unfolding MapBothAtOnce atOnce
-map-both-at-once t l c p v h =
-    let r : ℕ = reach t p in
-    let q : ℕ = reach t c in
-    same-set _ _ (λ i. given-has (givenFrom t l c p) q (getD l p 0) v i h ∙ rw (given-has l r (getD l c 0) v i h)
-    (both (inList l v i) (has r v && inList l c i) (has q v && inList l p i)
-    ∙ sym (union-has (getD (givenFrom t l c p) v 0) (getD (givenFrom t l p c) v 0) i ∙ rw (given-has l r (getD l c 0) v i h, given-has l q (getD l p 0) v i h) refl)))
-  where
-    both : (x y z : Bool) → ((x || y) || z) ≡ ((x || y) || (x || z))
-    both true y z = refl
-    both false y z = refl
 
 -- ---- one state
 module _ (s : State) (k : Invariant s) where

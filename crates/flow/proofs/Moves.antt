@@ -45,6 +45,14 @@ receiver-has t l g u i hg hu h =
     or-elim (inList l g i) (has r g && inList l g i) (λ e. e) (and-r (has r g) _) (sym (given-has l r (getD l g 0) g i hg) ∙ h) in
     given-has l r (getD l g 0) u i hu ∙ or-r (inList l u i) _ (and-i (has r u) _ (reach-here t u) held)
 
+-- map both in sequence: the second gift is of what b then holds
+pub in-sequence-has : (t : Tables) (l : List ℕ) (a b v i : ℕ) → b < 64 → v < 64
+    → inList (inSequence t l a b) v i ≡ ((inList l v i || (has (reach t b) v && inList l a i)) || (has (reach t a) v && (inList l b i || inList l a i)))
+unfolding inSequence
+in-sequence-has t l a b v i hb hv =
+    given-has (givenFrom t l a b) (reach t a) (getD (givenFrom t l a b) b 0) v i hv
+    ∙ ap₂ (λ (x y : Bool). x || (has (reach t a) v && y)) (given-has l (reach t b) (getD l a 0) v i hv) (ap (λ (z : ℕ). has z i) (receiver-at t l a b hb) ∙ union-has (getD l b 0) (getD l a 0) i)
+
 -- the container whose items v has after a copy from a to b
 unfoldable pub source : ℕ → ℕ → ℕ → ℕ
 source a b v = elim (eqb v b) [ true ↦ a | false ↦ v ]
@@ -83,14 +91,10 @@ module _ (s : State) where
   unfolding moved holds itemsOf
   arrival-holds u j v i h = given-has (s .items) (reach (s .tables) u) (only j) v i h ∙ ap (λ (b : Bool). holds s v i || (has (reach (s .tables) u) v && b)) (only-has j i)
 
-  -- the second gift is of what b then holds
   pub exchange-holds : (a b v i : ℕ) → b < 64 → v < 64
-      → inList (movedIn s (exchange a b)) v i ≡ ((holds s v i || (has (reach (s .tables) b) v && holds s a i)) || (has (reach (s .tables) a) v && (holds s b i || (has (reach (s .tables) b) b && holds s a i))))
-  unfolding moved inSequence holds itemsOf
-  exchange-holds a b v i hb hv =
-      let then : (u : ℕ) → u < 64 → inList (givenFrom (s .tables) (s .items) a b) u i ≡ (holds s u i || (has (reach (s .tables) b) u && holds s a i)) =
-      λ u hu. gift-holds a b u i hu in
-      given-has _ (reach (s .tables) a) _ v i hv ∙ ap₂ (λ (x y : Bool). x || (has (reach (s .tables) a) v && y)) (then v hv) (then b hb)
+      → inList (movedIn s (exchange a b)) v i ≡ ((holds s v i || (has (reach (s .tables) b) v && holds s a i)) || (has (reach (s .tables) a) v && (holds s b i || holds s a i)))
+  unfolding moved holds itemsOf
+  exchange-holds = in-sequence-has (s .tables) (s .items)
 
   pub copy-holds : (a b v i : ℕ) → v < 64 → inList (movedIn s (copy a b)) v i ≡ holds s (source a b v) i
   unfolding holds

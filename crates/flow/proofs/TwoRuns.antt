@@ -90,10 +90,10 @@ module _ (W : Type 0) (M : Machine W) (chosen : ℕ → Bool) where
         let ra : Bool = has (reach (s .tables) a) v in
         let rb : Bool = has (reach (s .tables) b) v in
         let mid : ℕ → Bool = λ i. holds s v i || (rb && holds s a i) in
-        let then : ℕ → Bool = λ i. holds s b i || (has (reach (s .tables) b) b && holds s a i) in
+        let then : ℕ → Bool = λ i. holds s b i || holds s a i in
         let one : Free chosen mid = free-self v ra mid then _ (λ i. exchange-holds s a b v i (fit .1) hv) f in
         let from-b : ra ≡ true → Free chosen (holds s b) =
-        λ m. free-self b (has (reach (s .tables) b) b) (holds s b) (holds s a) then (λ i. refl) (free-giver v ra mid then _ (λ i. exchange-holds s a b v i (fit .1) hv) f m) in
+        λ m. free-self b true (holds s b) (holds s a) then (λ i. refl) (free-giver v ra mid then _ (λ i. exchange-holds s a b v i (fit .1) hv) f m) in
         let containerOf : Free chosen (holds s v) = free-self v rb (holds s v) (holds s a) mid (λ i. refl) one in
         let from-a : rb ≡ true → Free chosen (holds s a) = free-giver v rb (holds s v) (holds s a) mid (λ i. refl) one in
         choices rb _ _ _ _
