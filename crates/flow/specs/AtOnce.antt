@@ -29,7 +29,8 @@ MapBothInSequence =
 -- ---- document 01's form: what it makes a container hold is what the read and the write, both from the state before, make it hold
 unfoldable pub MapBothAtOnce : Type 0
 MapBothAtOnce =
-    (t : Tables) (items : List ℕ) (c p v : ℕ) → v < containerCount → getD (atOnce t items c p) v 0 ≡ getD (givenFrom t items c p) v 0 ∪ getD (givenFrom t items p c) v 0
+    (t : Tables) (items : List ℕ) (c p v : ℕ) → v < containerCount
+    → getD (atOnce t items c p) v 0 ≡ getD (givenFrom t items c p) v 0 ∪ getD (givenFrom t items p c) v 0
 
 -- ---- what follows from document 01's form, definition by definition as in Calls, Verdicts and Contents: an exchange alone moves items
 -- otherwise
@@ -110,5 +111,6 @@ FormsDiffer =
     (let bytes = call mapBoth 0 0 0 0 in
     let containers : List ℕ = 8 ∷ 25 ∷ 24 ∷ 9 ∷ [] in
     let against : List Rule = record { condition = forbid 1 (only 9); action = 0; substitute = 0 } ∷ [] in
-    (map (itemsOf (next (torn []) bytes)) containers ≡ 6 ∷ 2 ∷ 6 ∷ 6 ∷ []) × (map (itemsOf (nextAtOnce (torn []) bytes)) containers ≡ 6 ∷ 2 ∷ 6 ∷ 4 ∷ [])
+    (map (itemsOf (next (torn []) bytes)) containers ≡ 6 ∷ 2 ∷ 6 ∷ 6 ∷ [])
+    × (map (itemsOf (nextAtOnce (torn []) bytes)) containers ≡ 6 ∷ 2 ∷ 6 ∷ 4 ∷ [])
     × (answer (torn against) bytes ≡ inhibit 0) × (answerOf (outcomeAtOnce (torn against) bytes) ≡ allow))

@@ -1,4 +1,5 @@
--- Document 01, The records: the nineteen calls; map both by 02, Paper 3. A call changes the tables (live processes, links, descriptors, names) and moves items.
+-- Document 01, The records: the nineteen calls; map both by 02, Paper 3. A call changes the tables (live processes, links, descriptors, names)
+-- and moves items.
 use Prim.Native.Nat.{ℕ}
 use mathlib.Core.Bool.{Bool, true, false, not, _&&_}
 use mathlib.Core.List.{List, _++_}
