@@ -248,8 +248,7 @@ twoSides =
 unfoldable pub mappingBoth : List Check
 mappingBoth =
     -- process 0 maps 24 both ways: both items are on both sides, and what comes later to either end comes to all
-    check (twoSides ++ call mapBoth 0 0 0 0) (allowed 10) (holding 8 6 ∷ holding 25 6 ∷ holding 24 6 ∷ holding 9 6 ∷ [])
-    ∷ check
+    check
     (twoSides ++ call mapBoth 0 0 0 0 ++ call label 0 25 3 0 ++ call label 0 24 4 0)
     (allowed 12)
     (holding 8 30 ∷ holding 25 30 ∷ holding 24 30 ∷ holding 9 30 ∷ [])
