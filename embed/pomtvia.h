@@ -5,8 +5,8 @@
  * a `struct pomtvia_monitor` that the caller owns.
  *
  * Answers and states are those of document 01, with Papers 1 to 3 of document 02, for every monitor in which no loaded rule is broken;
- * pomtvia_new makes such a one, and every function leaves it so. Any other bytes are safe too: every function ends and stays within its memory, refusals are right, and a refused
- * or inhibited call leaves every byte of every field as it was.
+ * pomtvia_new makes such a one, and every function leaves it so. Any other bytes are safe too: every function ends and stays within its
+ * memory, refusals are right, and a refused or inhibited call leaves every byte of every field as it was.
  *
  * What the caller sees to, since nothing checks it:
  *   - a monitor is made by pomtvia_new before any other function gets it.

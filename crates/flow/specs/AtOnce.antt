@@ -100,7 +100,7 @@ torn rules = let s = runLog fresh twoSides .state in record { tables = s .tables
 unfoldable pub Torn : Type 0
 Torn = (rules : List Rule) → (linked (torn rules .tables) 24 9 ≡ true) × (holds (torn rules) 24 1 ≡ true) × (holds (torn rules) 9 1 ≡ false)
 
--- whatever the rules, no list of steps comes to such a state
+-- whatever the rules, no list of steps comes to this state
 unfoldable pub NeverTorn : Type 0
 NeverTorn = (rules : List Rule) (steps : List Step) (k : ℕ) → stateAt steps k ≡ torn rules → ⊥
 
