@@ -18,10 +18,10 @@ use Rattle.flow.proofs.Rows.{Rows}
 use Rattle.flow.proofs.Use.{linked-used, reach-used}
 use Rattle.flow.proofs.Moves.{Along, Fit, inList, movedIn, given-at, source-other, copy-at, clear-at}
 
--- links in each direction
+-- the mappings of each sort
 pub record Linking (s : Tables) : Type 0 where
-  pub feeders : Rows (s .live) (s .feeders)
-  pub fed : Rows (s .live) (s .fed)
+  pub reads : Rows (s .live) (s .reads)
+  pub boths : Rows (s .live) (s .boths)
 
 -- what is not in use holds nothing
 abbrev pub Bare : State → Type 0
@@ -59,12 +59,12 @@ module _ (s : State) (x : Change) where
       → linked (x .tables) u v ≡ true → holds (after s x) u i ≡ true → holds (after s x) v i ≡ true
   unfolding holds
   after-along k a u v i hu hv l h =
-      ap (λ (z : ℕ). has z i) (after-in-use v hv (linked-used (x .tables) (k .feeders) (k .fed) u v l .1)) ∙ a u v i hu hv l (after-held u i hu h)
+      ap (λ (z : ℕ). has z i) (after-in-use v hv (linked-used (x .tables) (k .reads) (k .boths) u v l .1)) ∙ a u v i hu hv l (after-held u i hu h)
 
 -- a container in use neither before nor after a change has nothing moved into it
 module _ (s : State) (t : Tables) (k : Linking (s .tables)) (b : Bare s) where
   outside : (u v : ℕ) → used (s .tables) u ≡ true → used (s .tables) v ≡ false → has (reach (s .tables) u) v ≡ false
-  outside u v e f = by (has (reach (s .tables) u) v) (λ l. no-both (reach-used (s .tables) (k .feeders) (k .fed) u v e l) f) (λ l. l)
+  outside u v e f = by (has (reach (s .tables) u) v) (λ l. no-both (reach-used (s .tables) (k .reads) (k .boths) u v e l) f) (λ l. l)
 
   ungiven : (l : List ℕ) (u x v : ℕ) → v < 64 → used (s .tables) u ≡ true → used (s .tables) v ≡ false → getD l v 0 ≡ 0
       → getD (given l (reach (s .tables) u) x) v 0 ≡ 0

@@ -10,7 +10,7 @@ use lib.Seq.{getD-take, getD-drop, getD-append-add, getD-set-other, length-take-
 use borrow.Author.Tests.{ltb-true}
 use Rattle.sets.specs.Sets.{has, without}
 use Rattle.flow.specs.Box.{closed, slot, descriptorCount, Tables, isLive}
-use Rattle.flow.specs.Calls.{Kind, start, openName, create, pipe, device, dup, close, read, write, truncate, mapRead, mapBoth, unmap, unlink, rename, link, fork, exit, label, kindNumber, Call, isKind, withLive, withDescriptors, withNames, withLinks, putBlock, block, tablesBy}
+use Rattle.flow.specs.Calls.{Kind, start, openName, create, pipe, device, dup, close, read, write, truncate, mapRead, mapBoth, unmap, unlink, rename, link, fork, exit, label, kindNumber, Call, isKind, withLive, withDescriptors, withNames, withRow, withRows, raised, lowered, putBlock, block, tablesBy}
 use Rattle.flow.specs.Refusals.{ranges, inRange, dead}
 use Rattle.flow.proofs.Bools.{by, no-both}
 use Rattle.flow.proofs.Rows.{more-live, still-live, now-live}
@@ -96,7 +96,7 @@ module _ (s : Tables) (k : Linking s) (t : Quiet s) (p a b c : ℕ) where
   quiet-start = record { size = t .size; dead = λ q d hq hd h. t .dead q d hq hd (by (has (s .live) q) (λ v. no-both (more-live (s .live) p q v) h) (λ v. v)) }
 
   quiet-fork : a < 16 → p < 16 → Quiet (tablesBy s p a b c fork)
-  unfolding tablesBy withLive withDescriptors withLinks
+  unfolding tablesBy withLive withDescriptors withRow withRows raised lowered
   quiet-fork ha hp =
       record {
         size = put-length (s .descriptors) _ a (t .size) (block-length (s .descriptors) p (t .size) hp) ha;
@@ -106,7 +106,7 @@ module _ (s : Tables) (k : Linking s) (t : Quiet s) (p a b c : ℕ) where
       }
 
   quiet-exit : p < 16 → Quiet (tablesBy s p a b c exit)
-  unfolding tablesBy withLive withDescriptors withLinks
+  unfolding tablesBy withLive withDescriptors withRow withRows raised lowered
   quiet-exit hp =
       record {
         size = put-length (s .descriptors) _ p (t .size) (length-replicate {A = ℕ} 32 closed) hp;
@@ -120,7 +120,7 @@ module _ (s : Tables) (k : Linking s) (t : Quiet s) (p a b c : ℕ) where
           ∙ t .dead q d hq hd (by (has (s .live) q) (λ v. no-both (still-live (s .live) p q hq n v) h) (λ v. v))
 
   pub quiet-after : (kind : Kind) → Accepted s (call kind) → Quiet (tablesBy s p a b c kind)
-  unfolding tablesBy withNames withDescriptors withLinks ranges inRange dead isKind kindNumber
+  unfolding tablesBy withNames withDescriptors withRow withRows raised lowered ranges inRange dead isKind kindNumber
   quiet-after start h = quiet-start
   quiet-after openName h = live-set openName b _ (ltb-true b 32 (fits-b (ranges openName) (call openName) (h .fits))) refl h
   quiet-after create h = let u = live-set create b c (ltb-true b 32 (fits-b (ranges create) (call create) (h .fits))) refl h in record { size = u .size; dead = u .dead }

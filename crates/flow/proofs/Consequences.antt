@@ -16,11 +16,17 @@ use Rattle.flow.specs.Records.{Reading, unreadable, aCall, aRule, readin
 use Rattle.flow.specs.Refusals.{callTests, testsOf, refusal}
 use Rattle.flow.specs.Verdicts.{Outcome, refuses, loads, allows, inhibits, modifies, diversion, mayDivert, breaksNone, stopped, verdictBy, verdict, outcomeOfCall, outcomeOfRule, outcomeOf, outcome, refused, rule, allow, inhibit, answerOf, answer, stateAfter, next, answerAll, runLog}
 use Rattle.flow.specs.Contents.{Step, entry, memory, stepState, stateAt}
-use Rattle.flow.specs.Consequences.{PassedBreaksNone, VerdictExactly, NoGainAllowed, StoppedKeeps, OneAnswerEach, AnswersInOrder, LogIsSteps}
+use Rattle.flow.specs.Consequences.{LinksByCounts, PassedBreaksNone, VerdictExactly, NoGainAllowed, StoppedKeeps, OneAnswerEach, AnswersInOrder, LogIsSteps}
 use Rattle.flow.proofs.Bools.{choice}
 use Rattle.flow.proofs.TableLaws.{none-is}
 use Rattle.flow.proofs.Refused.{refusal-read}
 use Rattle.flow.proofs.Judging.{none-broken}
+use Rattle.flow.proofs.Mapping.{fed-by-count, feeder-by-count}
+
+-- ---- links by counts
+pub links-by-counts : LinksByCounts
+unfolding LinksByCounts
+links-by-counts t p c = (feeder-by-count t p c, fed-by-count t p c)
 
 -- ---- no rule is broken after a change
 unfoldable Whole : State → Outcome → Type 0

@@ -8,7 +8,7 @@ use lib.Dec.{ltb}
 use lib.ListN.{getD, take, drop, replicate, set}
 use borrow.Author.Tests.{not-false}
 use Rattle.flow.specs.Box.{isDevice, isFile, isTarget, closed, slot, descriptorCount, Tables, descriptor, name, isOpen, isBound}
-use Rattle.flow.specs.Calls.{Kind, start, openName, create, pipe, device, dup, close, read, write, truncate, mapRead, mapBoth, unmap, unlink, rename, link, fork, exit, label, Call, withLive, withDescriptors, withNames, withLinks, putBlock, block, tablesBy}
+use Rattle.flow.specs.Calls.{Kind, start, openName, create, pipe, device, dup, close, read, write, truncate, mapRead, mapBoth, unmap, unlink, rename, link, fork, exit, label, Call, withLive, withDescriptors, withNames, withRow, withRows, raised, lowered, putBlock, block, tablesBy}
 use Rattle.flow.specs.Refusals.{inRange, ranges, needOf, missing}
 use Rattle.flow.proofs.Bools.{or-l, or-r}
 use Rattle.flow.proofs.TableLaws.{untrue}
@@ -85,7 +85,7 @@ module _ (s : Tables) (t : Entries s) (p a b c : ℕ) where
   name-entry = each-at isFile (s .names) a (t .named)
 
   pub entries-after : (kind : Kind) → Accepted s (call kind) → Entries (tablesBy s p a b c kind)
-  unfolding tablesBy withLive withDescriptors withNames withLinks ranges inRange needOf missing isOpen isBound
+  unfolding tablesBy withLive withDescriptors withNames withRow withRows raised lowered ranges inRange needOf missing isOpen isBound
   entries-after start h = record { described = t .described; named = t .named }
   entries-after openName h = record { described = each-set isTarget _ _ _ (inr (not-false (isTarget (name s a)) (untrue _ 15 (h .there)))) (t .described); named = t .named }
   entries-after create h =

@@ -6,14 +6,15 @@ use mathlib.Core.Bool.{true}
 use lib.ListN.{length}
 use lib.Seq.{getD-set-same}
 use Rattle.sets.specs.Sets.{has}
-use Rattle.flow.specs.Box.{containerOf, Tables, State, itemsOf, feedersOf, feeds, descriptor}
+use Rattle.flow.specs.Box.{containerOf, Tables, State, itemsOf, rowOf, feedersOf, feeds, descriptor}
 use Rattle.flow.specs.Links.{linked, used}
-use Rattle.flow.specs.Calls.{fork, Call, change, withLive, withDescriptors, withLinks, tablesBy, flowBy, after}
+use Rattle.flow.specs.Calls.{fork, Call, change, withLive, withDescriptors, tablesBy, flowBy, after}
 use Rattle.flow.specs.Contents.{stateAt}
 use Rattle.flow.specs.Consequences.{ForkCopies}
 use Rattle.flow.proofs.Bools.{by, no-both}
 use Rattle.flow.proofs.Reach.{link-cases, link-in, link-out}
 use Rattle.flow.proofs.Rows.{target-not, now-live}
+use Rattle.flow.proofs.Mapping.{child-in, child-out}
 use Rattle.flow.proofs.Use.{used-process, feeder-row, fed-row}
 use Rattle.flow.proofs.Moves.{source-copy, copy-at}
 use Rattle.flow.proofs.After.{Linking, after-in-use}
@@ -29,7 +30,7 @@ module _ (s : Tables) (k : Linking s) (p : ℕ) (hp : p < 16) where
       (λ e. by (linked s u (containerOf p))
       (link-cases s u (containerOf p)
       (λ q hq d h. let z : q ≡ p = omega arith in no-both (rw z at h) e)
-      (λ q hq d h. absurd (target-not (containerOf p) (fed-row s (k .feeders) (k .fed) q .maps (containerOf p) h) (omega arith) (omega arith))))
+      (λ q hq d h. absurd (target-not (containerOf p) (fed-row s (k .reads) (k .boths) q .maps (containerOf p) h) (omega arith) (omega arith))))
       (λ f. f ∙ sym e))
 
   out-of-process : (v : ℕ) → linked s (containerOf p) v ≡ has (feeds s p) v
@@ -37,7 +38,7 @@ module _ (s : Tables) (k : Linking s) (p : ℕ) (hp : p < 16) where
       by (has (feeds s p) v) (λ e. link-out s p hp v e ∙ sym e)
       (λ e. by (linked s (containerOf p) v)
       (link-cases s (containerOf p) v
-      (λ q hq d h. absurd (target-not (containerOf p) (feeder-row s (k .feeders) (k .fed) q .maps (containerOf p) h) (omega arith) (omega arith)))
+      (λ q hq d h. absurd (target-not (containerOf p) (feeder-row s (k .reads) (k .boths) q .maps (containerOf p) h) (omega arith) (omega arith)))
       (λ q hq d h. let z : q ≡ p = omega arith in no-both (rw z at h) e))
       (λ f. f ∙ sym e))
 
@@ -46,15 +47,15 @@ module _ (s : Tables) (k : Linking s) (p a : ℕ) (hp : p < 16) (ha : a < 16) wh
   child = tablesBy s p a 0 0 fork
 
   child-feeders : feedersOf child a ≡ feedersOf s p
-  unfolding tablesBy withLive withDescriptors withLinks feedersOf
-  child-feeders = getD-set-same (s .feeders) a _ 0 (let e : length (s .feeders) ≡ 16 = k .feeders .size in omega arith)
+  unfolding tablesBy withLive withDescriptors rowOf feedersOf
+  child-feeders = child-in s k p a hp ha
 
   child-fed : feeds child a ≡ feeds s p
-  unfolding tablesBy withLive withDescriptors withLinks feeds
-  child-fed = getD-set-same (s .fed) a _ 0 (let e : length (s .fed) ≡ 16 = k .fed .size in omega arith)
+  unfolding tablesBy withLive withDescriptors rowOf feeds
+  child-fed = child-out s k p a hp ha
 
   child-linking : Linking child
-  child-linking = linking-fork s k p a 0 0 ha
+  child-linking = linking-fork s k p a 0 0 ha hp
 
   child-used : used child (containerOf a) ≡ true
   unfolding tablesBy withLive withDescriptors

@@ -1,14 +1,15 @@
 -- Every step keeps what Kept says.
 use Prim.Native.Nat.{ℕ, zero, suc, _^_, _≤_, _<_, zero-le}
 use native.Mathlib.Omega.{arith}
+use native.Mathlib.Decide.{decLt}
 use mathlib.Core.Path.{_≡_, refl, ap, _∙_}
 use mathlib.Core.Bool.{true, false}
 use mathlib.Core.List.{List, [], _∷_, _++_}
 use mathlib.Core.Option.{Option, none}
-use lib.ListN.{getD, length, replicate, length-append, length-replicate, getD-replicate}
+use lib.ListN.{getD, length, replicate, length-append, length-replicate, getD-replicate, List·getD-eq-default}
 use Rattle.sets.specs.Sets.{has}
 use Rattle.sets.proofs.Members.{none-has}
-use Rattle.flow.specs.Box.{isFile, isTarget, closed, slot, Rule, State, noTables, fresh, itemsOf, holds, isLive, feeds, descriptor}
+use Rattle.flow.specs.Box.{isFile, isTarget, closed, slot, Rule, State, noMappings, noTables, fresh, itemsOf, holds, isLive, mappings, feeds, descriptor}
 use Rattle.flow.specs.Calls.{Call, Change, after}
 use Rattle.flow.specs.Rules.{broken, firstBroken, lowestBroken}
 use Rattle.flow.specs.Records.{callOf}
@@ -18,9 +19,11 @@ use Rattle.flow.specs.Kept.{wellFormed, allWellFormed, Kept, EveryRecord
 use Rattle.flow.proofs.Bools.{and-l, and-r, and-i, no-both}
 use Rattle.flow.proofs.Judging.{none-broken, one-more}
 use Rattle.flow.proofs.Reach.{reach-exact}
-use Rattle.flow.proofs.Rows.{Rows, row-none}
+use Rattle.flow.proofs.Rows.{Rows}
+use Rattle.flow.proofs.Counts.{zeros, Counts, none-length, counts-none, counts-nil}
 use Rattle.flow.proofs.Use.{linked-used, linked-joins, fed-row}
 use Rattle.flow.proofs.Moves.{Along, moved-along}
+use Rattle.flow.proofs.Mapping.{counts-of}
 use Rattle.flow.proofs.After.{Linking, Bare, after-bare, after-along}
 use Rattle.flow.proofs.Entries.{Entries, each-closed, each-at}
 use Rattle.flow.proofs.Blocks.{Quiet}
@@ -38,26 +41,30 @@ pub record Invariant (s : State) : Type 0 where
   pub counted : length (s .rules) ≤ 32
 
 pub fed-bound : (s : State) → Linking (s .tables) → (p : ℕ) → feeds (s .tables) p < 2 ^ 64
-fed-bound s k p = fed-row (s .tables) (k .feeders) (k .fed) p .fits
+fed-bound s k p = fed-row (s .tables) (k .reads) (k .boths) p .fits
 
 -- ---- the fresh state
-zeros : (n k : ℕ) → _≡_ {A = ℕ} (getD (replicate n 0) k 0) 0
-zeros zero k = refl
-zeros (suc n) zero = refl
-zeros (suc n) (suc k) = zeros n k
-
 pub fresh-empty : (c : ℕ) → itemsOf fresh c ≡ 0
 unfolding fresh itemsOf
 fresh-empty c = zeros 64 c
 
-fresh-rows : Rows 0 (replicate 16 0)
-fresh-rows = record { size = length-replicate {A = ℕ} 16 0; row = λ p. rw (zeros 16 p) (row-none 0 p) }
+fresh-rows : Rows 0 (replicate 16 noMappings)
+fresh-rows =
+    record {
+      size = length-replicate {A = List ℕ} 16 noMappings;
+      wide = λ p h. ap length (getD-replicate 16 p noMappings [] h) ∙ none-length;
+      row = λ p. one p (decLt p 16);
+    }
+  where
+    one : (p : ℕ) → Dec (p < 16) → Counts 0 p (getD (replicate 16 noMappings) p [])
+    one p (yes h) = rw (getD-replicate 16 p noMappings [] h) (counts-none 0 p)
+    one p (no h) = rw (List·getD-eq-default (replicate 16 noMappings) [] {n = p} (omega (arith, length-replicate {A = List ℕ} 16 noMappings))) (counts-nil 0 p)
 
 pub fresh-kept : Invariant fresh
 unfolding fresh noTables lowestBroken firstBroken allWellFormed itemsOf
 fresh-kept =
     record {
-      linking = record { feeders = fresh-rows; fed = fresh-rows };
+      linking = record { reads = fresh-rows; boths = fresh-rows };
       entries = record { described = each-closed isTarget 512; named = each-closed isFile 128 };
       quiet = record { size = length-replicate {A = ℕ} 512 closed; dead = λ p d hp hd h. getD-replicate 512 (slot p d) closed closed (omega arith) };
       along = λ u v i hu hv l h. no-both h (ap (λ (x : ℕ). has x i) (zeros 64 u) ∙ none-has i);
@@ -125,7 +132,7 @@ state-kept steps zero = fresh-kept
 state-kept steps (suc k) = step-kept (stateAt steps k) (stepAt steps k) (state-kept steps k)
 
 pub invariant-keeps : (s : State) → Invariant s → Kept s
-unfolding holds itemsOf descriptor isLive
+unfolding holds itemsOf descriptor isLive mappings
 invariant-keeps s k =
     record {
       along = k .along;
@@ -133,8 +140,10 @@ invariant-keeps s k =
       unbroken = k .unbroken;
       loadable = k .loadable;
       counted = k .counted;
-      live = linked-used (s .tables) (k .linking .feeders) (k .linking .fed);
-      joined = linked-joins (s .tables) (k .linking .feeders) (k .linking .fed);
+      live = linked-used (s .tables) (k .linking .reads) (k .linking .boths);
+      joined = linked-joins (s .tables) (k .linking .reads) (k .linking .boths);
+      limited = λ x p c. counts-of (s .tables) (k .linking) p x .limit c;
+      mapping = λ x p c h. let r = counts-of (s .tables) (k .linking) p x in (r .lives c h, r .maps c h);
       described = λ n. each-at isTarget (s .tables .descriptors) n (k .entries .described);
       named = λ n. each-at isFile (s .tables .names) n (k .entries .named);
       dead = k .quiet .dead;

@@ -7,11 +7,13 @@ pub mod Logs
 pub mod Judging
 pub mod Meets
 pub mod Reach
+pub mod Counts
 pub mod Rows
 pub mod Use
 pub mod Moves
 pub mod MapBoth
 pub mod After
+pub mod Mapping
 pub mod Accepted
 pub mod Entries
 pub mod Blocks

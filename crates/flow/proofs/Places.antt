@@ -8,14 +8,13 @@ use mathlib.Core.List.{List, [], _∷_, _++_}
 use mathlib.Core.Option.{Option, none, some}
 use lib.Dec.{leb, eqb}
 use lib.ListN.{getD}
-use borrow.Author.Tests.{leb-true, eq-eqb, not-true}
-use Rattle.sets.specs.Sets.{has}
+use borrow.Author.Tests.{leb-true, eq-eqb, eqb-true, not-true}
 use Rattle.flow.specs.Lists.{isIn, Test, _⇒_, firstThat}
-use Rattle.flow.specs.Box.{Rule, Tables, State, feedersOf, feeds, isOpen, isBound}
+use Rattle.flow.specs.Box.{Rule, Tables, State, mappings, isOpen, isBound}
 use Rattle.flow.specs.Links.{used}
-use Rattle.flow.specs.Calls.{Call}
+use Rattle.flow.specs.Calls.{Call, sortOf}
 use Rattle.flow.specs.Records.{tagOf, callTag, valueOf, callIn, ruleIn, aCall, aRule, frameTests, contentOf, readingBy, reading, callRead, callOf}
-use Rattle.flow.specs.Refusals.{Need, noNeed, openDescriptor, boundName, aLink, usedContainer, needOf, missing, callTests, fieldTests, ruleTests, testsOf, recordTests, refusal}
+use Rattle.flow.specs.Refusals.{Need, noNeed, openDescriptor, boundName, aMapping, usedContainer, needOf, missing, callTests, fieldTests, ruleTests, testsOf, recordTests, refusal}
 use Rattle.flow.specs.Verdicts.{refused, answer}
 use Rattle.flow.specs.Consequences.{RefusedExactly, FirstDecides, Applies, this-test, later-test, places, placeIn, placeOf, StandAt, TestsInPlace, EarliestPlace, OneOfAPlace, Lacks, NumberTells}
 use Rattle.flow.proofs.Bools.{and-l, and-r, no-both, choice}
@@ -108,19 +107,19 @@ placed : (b : Bool) (m : ℕ) → m < 256 → (n : ℕ) → (b ⇒ m) ≡ some n
 placed b m l n e = rw (holding b m n e .1) (refl, l)
 
 -- what is missing, by what the call needs
-module _ (t : Tables) (p a : ℕ) where
-  need-cases : {P : Type 0} (x : Need) (n : ℕ) → missing t p a x ≡ some n
+module _ (t : Tables) (p a b : ℕ) where
+  need-cases : {P : Type 0} (x : Need) (n : ℕ) → missing t p a b x ≡ some n
       → (n ≡ 14 → x ≡ openDescriptor → isOpen t p a ≡ false → P) → (n ≡ 15 → x ≡ boundName → isBound t a ≡ false → P)
-      → (n ≡ 16 → x ≡ aLink → (has (feedersOf t p) a || has (feeds t p) a) ≡ false → P) → (n ≡ 8 → x ≡ usedContainer → used t a ≡ false → P) → P
+      → (n ≡ 16 → x ≡ aMapping → mappings t (sortOf b) p a ≡ 0 → P) → (n ≡ 8 → x ≡ usedContainer → used t a ≡ false → P) → P
   unfolding missing
   need-cases noNeed n e f g h k = absurd (let z : _≡_ {A = ℕ} 0 1 = cc in let y : ⊥ = omega arith in y)
   need-cases openDescriptor n e f g h k = let d = holding _ 14 n e in f (d .1) refl (not-true _ (d .0))
   need-cases boundName n e f g h k = let d = holding _ 15 n e in g (d .1) refl (not-true _ (d .0))
-  need-cases aLink n e f g h k = let d = holding _ 16 n e in h (d .1) refl (not-true _ (d .0))
+  need-cases aMapping n e f g h k = let d = holding _ 16 n e in h (d .1) refl (eqb-true _ 0 (d .0))
   need-cases usedContainer n e f g h k = let d = holding _ 8 n e in k (d .1) refl (not-true _ (d .0))
 
   -- it has the place of 8
-  missing-placed : (x : Need) (n : ℕ) → missing t p a x ≡ some n → (placeOf n ≡ placeOf 8) × (n < 256)
+  missing-placed : (x : Need) (n : ℕ) → missing t p a b x ≡ some n → (placeOf n ≡ placeOf 8) × (n < 256)
   unfolding placeOf places placeIn isIn
   missing-placed x n e = need-cases x n e (λ d y z. rw d (refl, omega arith)) (λ d y z. rw d (refl, omega arith)) (λ d y z. rw d (refl, omega arith)) (λ d y z. rw d (refl, omega arith))
 
@@ -128,7 +127,7 @@ frame-stands : (bytes : List ℕ) → Stand (1 ∷ 2 ∷ 3 ∷ []) (frameTests b
 unfolding Stand frameTests
 frame-stands bytes = (placed _ 1 (omega arith), (placed _ 2 (omega arith), (placed _ 3 (omega arith), tt)))
 
-call-stands : (t : Tables) (q : Call) → Stand (5 ∷ 6 ∷ 7 ∷ 8 ∷ 9 ∷ 10 ∷ []) (callTests t (some q))
+call-stands : (t : Tables) (q : Call) → Stand (5 ∷ 6 ∷ 7 ∷ 8 ∷ 9 ∷ 10 ∷ 17 ∷ []) (callTests t (some q))
 unfolding Stand callTests
 call-stands t q = (
   placed _ 5 (omega arith),
@@ -136,7 +135,7 @@ call-stands t q = (
     placed _ 6 (omega arith),
     (
       placed _ 7 (omega arith),
-      (missing-placed t (q .process) (q .a) (needOf (q .kind)), (placed _ 9 (omega arith), (placed _ 10 (omega arith), tt))),
+      (missing-placed t (q .process) (q .a) (q .b) (needOf (q .kind)), (placed _ 9 (omega arith), (placed _ 10 (omega arith), (placed _ 17 (omega arith), tt)))),
     ),
   ),
 )
@@ -228,20 +227,20 @@ at-place n p [] is (u ∷ ts) us t c d at a b e = absurd c
 at-place n p (m ∷ ms) is [] us t c d at a b e = absurd c
 
 -- a call that is refused with one of them lacks what it needs
-call-lacks : (t : Tables) (q : Call) (n : ℕ) → placeOf n ≡ placeOf 8 → firstThat (callTests t (some q)) ≡ some n → missing t (q .process) (q .a) (needOf (q .kind)) ≡ some n
+call-lacks : (t : Tables) (q : Call) (n : ℕ) → placeOf n ≡ placeOf 8 → firstThat (callTests t (some q)) ≡ some n → missing t (q .process) (q .a) (q .b) (needOf (q .kind)) ≡ some n
 unfolding TestsInPlace StandAt callTests away placeOf places placeIn isIn
 call-lacks t q n at e =
     let c = tests-in-place .1 t q in
-    at-place n 7 (5 ∷ 6 ∷ 7 ∷ []) (9 ∷ 10 ∷ []) (_ ∷ _ ∷ _ ∷ []) (_ ∷ _ ∷ []) _ (c .0, (c .1 .0, (c .1 .1 .0, tt))) (c .1 .1 .1 .1) at refl refl e
+    at-place n 7 (5 ∷ 6 ∷ 7 ∷ []) (9 ∷ 10 ∷ 17 ∷ []) (_ ∷ _ ∷ _ ∷ []) (_ ∷ _ ∷ _ ∷ []) _ (c .0, (c .1 .0, (c .1 .1 .0, tt))) (c .1 .1 .1 .1) at refl refl e
 
 -- a record that is refused with one of them is a call that lacks what it needs
 record-lacks : (s : State) (bytes : List ℕ) (n : ℕ) → placeOf n ≡ placeOf 8 → answer s bytes ≡ refused n
-    → (q : Call) × (callOf bytes ≡ some q) × (missing (s .tables) (q .process) (q .a) (needOf (q .kind)) ≡ some n)
+    → (q : Call) × (callOf bytes ≡ some q) × (missing (s .tables) (q .process) (q .a) (q .b) (needOf (q .kind)) ≡ some n)
 unfolding RefusedExactly TestsInPlace refusal recordTests reading readingBy callOf callRead contentOf testsOf away placeOf places placeIn isIn
 record-lacks s bytes n at e = of-frame (firstThat (frameTests bytes)) refl
   where
     Found : Type 0
-    Found = (q : Call) × (callRead (reading bytes) ≡ some q) × (missing (s .tables) (q .process) (q .a) (needOf (q .kind)) ≡ some n)
+    Found = (q : Call) × (callRead (reading bytes) ≡ some q) × (missing (s .tables) (q .process) (q .a) (q .b) (needOf (q .kind)) ≡ some n)
 
     refuses : refusal s bytes ≡ some n
     refuses = refused-exactly s bytes n .0 e
@@ -271,8 +270,8 @@ other d e a b = no-both (eq-eqb _ _ e) d
 pub number-tells : NumberTells
 unfolding NumberTells Lacks placeOf places placeIn isIn
 number-tells s bytes = (
-  λ e. let h = record-lacks s bytes 14 refl e in let q = h .0 in need-cases (s .tables) (q .process) (q .a) (needOf (q .kind)) 14 (h .2) (λ n y z. (q, h .1, y, z)) (other refl) (other refl) (other refl),
-  λ e. let h = record-lacks s bytes 15 refl e in let q = h .0 in need-cases (s .tables) (q .process) (q .a) (needOf (q .kind)) 15 (h .2) (other refl) (λ n y z. (q, h .1, y, z)) (other refl) (other refl),
-  λ e. let h = record-lacks s bytes 16 refl e in let q = h .0 in need-cases (s .tables) (q .process) (q .a) (needOf (q .kind)) 16 (h .2) (other refl) (other refl) (λ n y z. (q, h .1, y, z)) (other refl),
-  λ e. let h = record-lacks s bytes 8 refl e in let q = h .0 in need-cases (s .tables) (q .process) (q .a) (needOf (q .kind)) 8 (h .2) (other refl) (other refl) (other refl) (λ n y z. (q, h .1, y, z)),
+  λ e. let h = record-lacks s bytes 14 refl e in let q = h .0 in need-cases (s .tables) (q .process) (q .a) (q .b) (needOf (q .kind)) 14 (h .2) (λ n y z. (q, h .1, y, z)) (other refl) (other refl) (other refl),
+  λ e. let h = record-lacks s bytes 15 refl e in let q = h .0 in need-cases (s .tables) (q .process) (q .a) (q .b) (needOf (q .kind)) 15 (h .2) (other refl) (λ n y z. (q, h .1, y, z)) (other refl) (other refl),
+  λ e. let h = record-lacks s bytes 16 refl e in let q = h .0 in need-cases (s .tables) (q .process) (q .a) (q .b) (needOf (q .kind)) 16 (h .2) (other refl) (other refl) (λ n y z. (q, h .1, y, z)) (other refl),
+  λ e. let h = record-lacks s bytes 8 refl e in let q = h .0 in need-cases (s .tables) (q .process) (q .a) (q .b) (needOf (q .kind)) 8 (h .2) (other refl) (other refl) (other refl) (λ n y z. (q, h .1, y, z)),
 )

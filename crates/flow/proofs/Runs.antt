@@ -1,25 +1,25 @@
 -- The starred runs have their stated outcomes, refusals tell what was missing, holders come in rising number, map both gives both ways and
--- its two forms differ in a torn state, and contents do move: by computation.
+-- its two forms differ in a torn state, mappings are counted, and contents do move: by computation.
 use mathlib.Core.Path.{refl}
 use Rattle.sets.specs.Sets.{has, only, _∪_, _∩_, bit, thoseFrom, those, risingFrom, rising, without}
 use Rattle.flow.specs.Lists.{tableFrom, table, someBelow, isIn, _⇒_, firstThat, isNone}
-use Rattle.flow.specs.Box.{isDevice, isProcess, isFile, fresh, itemsOf, feedersOf, feeds, descriptor, name, isTarget, holds, isLive, isOpen, isBound, noTables}
+use Rattle.flow.specs.Box.{isDevice, isProcess, isFile, fresh, itemsOf, rowOf, mappings, mappedIn, feedersOf, feeds, descriptor, name, isTarget, holds, isLive, isOpen, isBound, noMappings, noTables}
 use Rattle.flow.specs.Links.{linked, meets, through, throughEach, closure, reach, given, isFed, mapped, used}
 use Rattle.flow.specs.MapBoth.{inSequence, atOnce}
-use Rattle.flow.specs.Calls.{kindNumber, isKind, withLive, withDescriptors, withNames, withLinks, putBlock, block, tablesBy, flowBy, change, moved, ended, itemsAfter, after}
+use Rattle.flow.specs.Calls.{kindNumber, isKind, withLive, withDescriptors, withNames, withRow, withRows, raised, lowered, sortOf, putBlock, block, tablesBy, flowBy, change, moved, ended, itemsAfter, after}
 use Rattle.flow.specs.Rules.{breaks, broken, firstBroken, lowestBroken, forbids}
 use Rattle.flow.specs.Records.{byteAt, tagOf, statedLength, recordLength, valueOf, cutShort, knownTag, tagLength, wrongLength, kinds, kindOf, callBy, callFrom, callIn, conditionOf, numberFrom, setIn, ruleWith, ruleIn, frameTests, contentOf, readingBy, reading, callRead, callOf, recordsIn, recordsOf}
-use Rattle.flow.specs.Refusals.{inRange, ranges, fieldsFit, dead, taken, needOf, missing, sameDescriptors, noFile, callTests, itemsFit, substituteFits, sameItems, fieldTests, ruleTests}
+use Rattle.flow.specs.Refusals.{inRange, ranges, fieldsFit, dead, taken, needOf, missing, sameDescriptors, noFile, full, callTests, itemsFit, substituteFits, sameItems, fieldTests, ruleTests}
 use Rattle.flow.specs.Verdicts.{diversion, mayDivert, breaksNone, stopped, verdictBy, verdict, outcomeOfCall, outcomeOfRule, outcomeOf as outcomeRead, outcome, answerOf, answer, withRule, stateAfter, next, answerAll, runLog}
 use Rattle.flow.specs.Queries.{holders, holdersRefusal, replyBy, holdersQuery, sliceBy, holdersSlice}
 use Rattle.flow.specs.Contents.{flowed, changed, contentsAfter, linkedTo, stepContents, stepState, stateAt, runAt, labelOf, itemLabelled}
-use Rattle.flow.specs.Runs.{outcomeOf, call, shared, filed, renamed, spare, thirtyTwo, allowed, starred, Starred, further, Further, lacking, Lacking, total, remembered, copying, carried, chained, Moves, repliedIn, replied, falling, asked, HoldersAsked, twoSides, mappingBoth, MappingBoth}
+use Rattle.flow.specs.Runs.{outcomeOf, call, shared, filed, renamed, spare, thirtyTwo, allowed, starred, Starred, further, Further, lacking, Lacking, total, remembered, copying, carried, chained, Moves, repliedIn, replied, falling, asked, HoldersAsked, twoSides, mappingBoth, MappingBoth, nested, twoSorts, mappedTwice, MappedTwice}
 use Rattle.flow.specs.AtOnce.{movedAtOnce, afterAtOnce, verdictAtOnce, outcomeOfCallAtOnce, outcomeOfAtOnce, outcomeAtOnce, stateAfterAtOnce, nextAtOnce, torn, Torn, FormsDiffer}
 
 -- together, since each would unfold the same definitions
-all-runs : Starred × Further × Lacking × HoldersAsked × MappingBoth × FormsDiffer × Torn × Moves
-unfolding has only _∪_ _∩_ bit thoseFrom those without tableFrom table someBelow isIn firstThat _⇒_ isDevice isProcess isFile fresh itemsOf feedersOf feeds descriptor name isTarget linked meets through throughEach closure reach given mapped used kindNumber withLive withDescriptors withNames withLinks putBlock block isFed tablesBy flowBy change moved ended itemsAfter after holds breaks broken firstBroken lowestBroken forbids byteAt tagOf statedLength recordLength valueOf cutShort knownTag tagLength wrongLength kinds kindOf callBy callFrom callIn conditionOf numberFrom setIn ruleWith ruleIn frameTests contentOf readingBy reading callRead callOf recordsIn recordsOf inRange ranges fieldsFit isLive isOpen isBound dead taken needOf missing sameDescriptors noFile callTests itemsFit substituteFits sameItems fieldTests ruleTests noTables isNone isKind diversion mayDivert breaksNone stopped verdictBy verdict outcomeOfCall outcomeOfRule outcomeRead outcome answerOf answer withRule stateAfter next answerAll runLog flowed changed contentsAfter linkedTo stepContents stepState stateAt runAt labelOf itemLabelled outcomeOf call shared filed renamed spare thirtyTwo allowed starred Starred total remembered copying carried chained Moves further Further lacking Lacking repliedIn replied falling asked HoldersAsked holders holdersRefusal replyBy holdersQuery sliceBy holdersSlice risingFrom rising twoSides mappingBoth MappingBoth inSequence atOnce movedAtOnce afterAtOnce verdictAtOnce outcomeOfCallAtOnce outcomeOfAtOnce outcomeAtOnce stateAfterAtOnce nextAtOnce torn Torn FormsDiffer
-all-runs = ((refl, refl), refl, refl, refl, refl, (refl, refl, refl, refl), (λ rules. (refl, refl, refl)), (refl, refl, refl, refl, refl, refl, refl, refl, refl, refl))
+all-runs : Starred × Further × Lacking × HoldersAsked × MappingBoth × FormsDiffer × Torn × Moves × MappedTwice
+unfolding has only _∪_ _∩_ bit thoseFrom those without tableFrom table someBelow isIn firstThat _⇒_ isDevice isProcess isFile fresh itemsOf rowOf mappings mappedIn feedersOf feeds descriptor name isTarget linked meets through throughEach closure reach given mapped used kindNumber withLive withDescriptors withNames withRow withRows raised lowered sortOf putBlock block isFed tablesBy flowBy change moved ended itemsAfter after holds breaks broken firstBroken lowestBroken forbids byteAt tagOf statedLength recordLength valueOf cutShort knownTag tagLength wrongLength kinds kindOf callBy callFrom callIn conditionOf numberFrom setIn ruleWith ruleIn frameTests contentOf readingBy reading callRead callOf recordsIn recordsOf inRange ranges fieldsFit isLive isOpen isBound dead taken needOf missing sameDescriptors noFile full callTests itemsFit substituteFits sameItems fieldTests ruleTests noMappings noTables isNone isKind diversion mayDivert breaksNone stopped verdictBy verdict outcomeOfCall outcomeOfRule outcomeRead outcome answerOf answer withRule stateAfter next answerAll runLog flowed changed contentsAfter linkedTo stepContents stepState stateAt runAt labelOf itemLabelled outcomeOf call shared filed renamed spare thirtyTwo allowed starred Starred total remembered copying carried chained Moves further Further lacking Lacking repliedIn replied falling asked HoldersAsked holders holdersRefusal replyBy holdersQuery sliceBy holdersSlice risingFrom rising twoSides mappingBoth MappingBoth nested twoSorts mappedTwice MappedTwice inSequence atOnce movedAtOnce afterAtOnce verdictAtOnce outcomeOfCallAtOnce outcomeOfAtOnce outcomeAtOnce stateAfterAtOnce nextAtOnce torn Torn FormsDiffer
+all-runs = ((refl, refl), refl, refl, refl, refl, (refl, refl, refl, refl), (λ rules. (refl, refl, refl)), (refl, refl, refl, refl, refl, refl, refl, refl, refl, refl), refl)
 
 pub starred-runs : Starred
 starred-runs = all-runs .0
@@ -44,3 +44,6 @@ torn-is = all-runs .6
 
 pub contents-move : Moves
 contents-move = all-runs .7
+
+pub mapped-twice : MappedTwice
+mapped-twice = all-runs .8

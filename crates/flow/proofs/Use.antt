@@ -8,12 +8,12 @@ use lib.Dec.{ltb, leb}
 use borrow.Author.Tests.{ltb-false, leb-true, leb-false, le-ltb, lt-ltb, le-leb}
 use Rattle.sets.specs.Sets.{has}
 use Rattle.flow.specs.Lists.{isIn}
-use Rattle.flow.specs.Box.{isDevice, isProcess, isFile, containerOf, isTarget, closed, slot, Tables, isLive, feedersOf, feeds, descriptor}
+use Rattle.flow.specs.Box.{isDevice, isProcess, isFile, containerOf, isTarget, closed, slot, Tables, isLive, rowOf, feedersOf, feeds, descriptor}
 use Rattle.flow.specs.Links.{linked, Reaches, here, onward, reach, mapped, used}
 use Rattle.flow.proofs.Bools.{or-elim, or-l, or-r, and-l, and-i, by, no-both, chosen-l, chosen-r}
 use Rattle.flow.proofs.TableLaws.{some-of, is-in}
 use Rattle.flow.proofs.Reach.{process-range, is-process, container-process, container-number, link-cases, reach-leads}
-use Rattle.flow.proofs.Rows.{target-lt, target-not, Row, Rows}
+use Rattle.flow.proofs.Rows.{target-lt, target-not, Row, Rows, row-of, row-union}
 
 module _ (t : Tables) where
   abbrev pub held : ℕ → Bool
@@ -72,14 +72,14 @@ module _ (t : Tables) where
       (λ m. or-l _ (mapped t e) (or-r (isIn e (t .names)) _ (is-in (t .descriptors) (slot p d) closed (λ q. absurd (let k : e < 64 = target-lt e l in let z : ⊥ = omega (arith, q) in z)))))
 
   -- ---- links join what is in use
-  module _ (feeders : Rows (t .live) (t .feeders)) (fed : Rows (t .live) (t .fed)) where
-    pub feeder-row : (p : ℕ) → Row (t .live) p (feedersOf t p)
-    unfolding feedersOf
-    feeder-row p = feeders .row p
-
+  module _ (reads : Rows (t .live) (t .reads)) (boths : Rows (t .live) (t .boths)) where
     pub fed-row : (p : ℕ) → Row (t .live) p (feeds t p)
-    unfolding feeds
-    fed-row p = fed .row p
+    unfolding feeds rowOf
+    fed-row p = row-of (boths .row p)
+
+    pub feeder-row : (p : ℕ) → Row (t .live) p (feedersOf t p)
+    unfolding feedersOf feeds rowOf
+    feeder-row p = row-union (row-of (reads .row p)) (fed-row p)
 
     pub linked-used : (u v : ℕ) → linked t u v ≡ true → (used t u ≡ true) × (used t v ≡ true)
     linked-used u v l =

@@ -1,10 +1,10 @@
--- Document 01, The box: the numbers and their limits, the state, the fresh state, and looking things up in it.
+-- Document 01, The box: the numbers and their limits, the state, the fresh state, and looking things up in it. 02, Paper 4: mappings counted.
 use Prim.Native.Nat.{ℕ, _+_, _*_}
 use mathlib.Core.Bool.{Bool, _&&_, _||_}
-use mathlib.Core.List.{List, []}
+use mathlib.Core.List.{List, [], _∷_}
 use lib.Dec.{ltb, leb}
 use lib.ListN.{getD, replicate}
-use Rattle.sets.specs.Sets.{has}
+use Rattle.sets.specs.Sets.{has, bit, _∪_}
 
 -- ---- the limits
 abbrev pub containerCount : ℕ
@@ -35,6 +35,10 @@ nameCount = 128
 abbrev pub descriptorCount : ℕ
 descriptorCount = 32
 
+-- mappings of each sort that a process may have of a container (02, Paper 4)
+abbrev pub mappingLimit : ℕ
+mappingLimit = 255
+
 -- rules have the numbers 0 to 31 (01, The records)
 abbrev pub ruleCount : ℕ
 ruleCount = 32
@@ -62,6 +66,11 @@ isTarget c = isDevice c || isFile c
 abbrev pub containerOf : ℕ → ℕ
 containerOf p = firstProcess + p
 
+-- ---- the sorts of mapping (02, Paper 4): for reading, and both ways
+pub data Sort : Type 0 where
+  toRead : Sort
+  bothWays : Sort
+
 -- ---- rules (01, The records): an item is a number, a set of containers too
 pub data Condition : Type 0 where
   forbid : ℕ → ℕ → Condition  -- tag 11 hex: the item may be in no container of the set
@@ -75,12 +84,13 @@ pub record Rule : Type 0 where
   pub substitute : ℕ
 
 -- ---- the state
--- What calls set. live: the set of live processes. feeders, fed: for each process the set of the containers that link to it, and of those
--- that it links to (the alias map). descriptors: 32 for each process; names: 128. An entry is the container that it leads to (the naming maps).
+-- What calls set. live: the set of live processes. reads, boths: for each process a row of counts: how many mappings for reading, and both
+-- ways, it has of each container (the alias map; 02, Paper 4). descriptors: 32 for each process; names: 128. An entry is the container that it
+-- leads to (the naming maps).
 pub record Tables : Type 0 where
   pub live : ℕ
-  pub feeders : List ℕ
-  pub fed : List ℕ
+  pub reads : List (List ℕ)
+  pub boths : List (List ℕ)
   pub descriptors : List ℕ
   pub names : List ℕ
 
@@ -94,13 +104,17 @@ pub record State : Type 0 where
 abbrev pub closed : ℕ
 closed = 255
 
--- no live process and no links; every descriptor closed, every name unbound
+-- a row of no mappings
+unfoldable pub noMappings : List ℕ
+noMappings = replicate containerCount 0
+
+-- no live process and no mappings; every descriptor closed, every name unbound
 unfoldable pub noTables : Tables
 noTables =
     record {
       live = 0;
-      feeders = replicate processCount 0;
-      fed = replicate processCount 0;
+      reads = replicate processCount noMappings;
+      boths = replicate processCount noMappings;
       descriptors = replicate (processCount * descriptorCount) closed;
       names = replicate nameCount closed;
     }
@@ -121,12 +135,26 @@ holds s c i = has (itemsOf s c) i
 unfoldable pub isLive : Tables → ℕ → Bool
 isLive t p = has (t .live) p
 
--- the containers that feed process p, and those that it feeds
+-- the row of a sort of mapping of process p
+unfoldable pub rowOf : Tables → Sort → ℕ → List ℕ
+rowOf t toRead p = getD (t .reads) p []
+rowOf t bothWays p = getD (t .boths) p []
+
+-- how many mappings of a sort process p has of container c
+unfoldable pub mappings : Tables → Sort → ℕ → ℕ → ℕ
+mappings t x p c = getD (rowOf t x p) c 0
+
+-- the containers whose count in a row is above 0
+unfoldable pub mappedIn : List ℕ → ℕ
+mappedIn [] = 0
+mappedIn (n ∷ row) = bit (ltb 0 n) + 2 * mappedIn row
+
+-- 02, Paper 4: the containers that feed process p, while either count is above 0, and those that it feeds, while the two-way count is
 unfoldable pub feedersOf : Tables → ℕ → ℕ
-feedersOf t p = getD (t .feeders) p 0
+feedersOf t p = mappedIn (rowOf t toRead p) ∪ mappedIn (rowOf t bothWays p)
 
 unfoldable pub feeds : Tables → ℕ → ℕ
-feeds t p = getD (t .fed) p 0
+feeds t p = mappedIn (rowOf t bothWays p)
 
 -- the place of descriptor d of process p
 abbrev pub slot : ℕ → ℕ → ℕ

@@ -1,13 +1,13 @@
--- Document 01, The records: the nineteen calls; map both by 02, Paper 3. A call changes the tables (live processes, links, descriptors, names)
--- and moves items.
-use Prim.Native.Nat.{ℕ}
+-- Document 01, The records: the nineteen calls; map both by 02, Paper 3, mappings counted by Paper 4. A call changes the tables (live
+-- processes, mappings, descriptors, names) and moves items.
+use Prim.Native.Nat.{ℕ, suc, _-_}
 use mathlib.Core.Bool.{Bool, true, false, not, _&&_}
 use mathlib.Core.List.{List, _++_}
 use lib.Dec.{eqb}
 use lib.ListN.{getD, take, drop, replicate, set}
 use Rattle.sets.specs.Sets.{only, without, _∪_}
 use Rattle.flow.specs.Lists.{table}
-use Rattle.flow.specs.Box.{containerCount, descriptorCount, containerOf, slot, closed, Tables, State, feedersOf, feeds, descriptor, name}
+use Rattle.flow.specs.Box.{containerCount, descriptorCount, containerOf, slot, closed, Sort, toRead, bothWays, Tables, State, noMappings, rowOf, mappings, descriptor, name}
 use Rattle.flow.specs.Links.{reach, given, givenFrom, isFed, used}
 use Rattle.flow.specs.MapBoth.{inSequence}
 
@@ -77,17 +77,39 @@ pub data Flow : Type 0 where
 
 -- ---- the tables with one part changed
 unfoldable pub withLive : Tables → ℕ → Tables
-withLive t x = record { live = x; feeders = t .feeders; fed = t .fed; descriptors = t .descriptors; names = t .names }
+withLive t x = record { live = x; reads = t .reads; boths = t .boths; descriptors = t .descriptors; names = t .names }
 
--- the links of process p: the containers that feed it, and those that it feeds
-unfoldable pub withLinks : Tables → ℕ → ℕ → ℕ → Tables
-withLinks t p x y = record { live = t .live; feeders = set (t .feeders) p x; fed = set (t .fed) p y; descriptors = t .descriptors; names = t .names }
+-- the row of a sort of mapping of process p
+unfoldable pub withRow : Tables → Sort → ℕ → List ℕ → Tables
+withRow t x p row =
+    record {
+      live = t .live;
+      reads = elim x [ toRead ↦ set (t .reads) p row | bothWays ↦ t .reads ];
+      boths = elim x [ toRead ↦ t .boths | bothWays ↦ set (t .boths) p row ];
+      descriptors = t .descriptors;
+      names = t .names;
+    }
+
+-- both rows of process p
+unfoldable pub withRows : Tables → ℕ → List ℕ → List ℕ → Tables
+withRows t p reads boths = withRow (withRow t toRead p reads) bothWays p boths
+
+-- one mapping of container c more, and one less
+unfoldable pub raised : Tables → Sort → ℕ → ℕ → Tables
+raised t x p c = withRow t x p (set (rowOf t x p) c (suc (mappings t x p c)))
+
+unfoldable pub lowered : Tables → Sort → ℕ → ℕ → Tables
+lowered t x p c = withRow t x p (set (rowOf t x p) c (mappings t x p c - 1))
+
+-- the sort that unmap's field b names: 0 for reading, 1 both ways
+unfoldable pub sortOf : ℕ → Sort
+sortOf b = elim (eqb b 0) [ true ↦ toRead | false ↦ bothWays ]
 
 unfoldable pub withDescriptors : Tables → List ℕ → Tables
-withDescriptors t x = record { live = t .live; feeders = t .feeders; fed = t .fed; descriptors = x; names = t .names }
+withDescriptors t x = record { live = t .live; reads = t .reads; boths = t .boths; descriptors = x; names = t .names }
 
 unfoldable pub withNames : Tables → List ℕ → Tables
-withNames t x = record { live = t .live; feeders = t .feeders; fed = t .fed; descriptors = t .descriptors; names = x }
+withNames t x = record { live = t .live; reads = t .reads; boths = t .boths; descriptors = t .descriptors; names = x }
 
 -- the descriptors with the 32 of process p replaced by these
 unfoldable pub putBlock : List ℕ → ℕ → List ℕ → List ℕ
@@ -105,8 +127,8 @@ module _ (t : Tables) (p a b c : ℕ) where
   abbrev to : ℕ
   to = descriptor t p a
 
-  -- Live processes, links, descriptors and names after the call. A closed descriptor ends no mapping. A link is there or not: a second
-  -- mapping adds no second link, and one unmap ends both.
+  -- Live processes, mappings, descriptors and names after the call. A closed descriptor ends no mapping. Each map call is one mapping more
+  -- of its sort, and each unmap one less of the sort that it names; a fork copies the counts and an exit clears them (02, Paper 4).
   unfoldable pub tablesBy : Kind → Tables
   tablesBy start = withLive t (t .live ∪ only p)
   tablesBy openName = setDescriptor b (name t a)
@@ -118,16 +140,16 @@ module _ (t : Tables) (p a b c : ℕ) where
   tablesBy read = t
   tablesBy write = t
   tablesBy truncate = t
-  tablesBy mapRead = withLinks t p (feedersOf t p ∪ only to) (feeds t p)
-  tablesBy mapBoth = withLinks t p (feedersOf t p ∪ only to) (feeds t p ∪ only to)
-  tablesBy unmap = withLinks t p (without (feedersOf t p) a) (without (feeds t p) a)
+  tablesBy mapRead = raised t toRead p to
+  tablesBy mapBoth = raised t bothWays p to
+  tablesBy unmap = lowered t (sortOf b) p a
   tablesBy unlink = withNames t (set (t .names) a closed)
   tablesBy rename = withNames t (set (set (t .names) a closed) b (name t a))
   tablesBy link = withNames t (set (t .names) b (name t a))
   tablesBy fork =
-      withDescriptors (withLive (withLinks t a (feedersOf t p) (feeds t p)) (t .live ∪ only a)) (putBlock (t .descriptors) a (block (t .descriptors) p))
+      withDescriptors (withLive (withRows t a (rowOf t toRead p) (rowOf t bothWays p)) (t .live ∪ only a)) (putBlock (t .descriptors) a (block (t .descriptors) p))
   tablesBy exit =
-      withDescriptors (withLive (withLinks t p 0 0) (without (t .live) p)) (putBlock (t .descriptors) p (replicate descriptorCount closed))
+      withDescriptors (withLive (withRows t p noMappings noMappings) (without (t .live) p)) (putBlock (t .descriptors) p (replicate descriptorCount closed))
   tablesBy label = t
 
   -- the items that move

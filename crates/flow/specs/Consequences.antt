@@ -10,12 +10,12 @@ use lib.Dec.{ltb}
 use lib.ListN.{getD, length, take, drop}
 use Rattle.sets.specs.Sets.{has}
 use Rattle.flow.specs.Lists.{isIn, Test}
-use Rattle.flow.specs.Box.{containerCount, itemCount, processCount, descriptorCount, containerOf, Rule, Tables, State, itemsOf, feedersOf, feeds, holds, descriptor, isOpen, isBound}
+use Rattle.flow.specs.Box.{containerCount, itemCount, processCount, descriptorCount, containerOf, Rule, Tables, State, itemsOf, toRead, bothWays, mappings, feedersOf, feeds, holds, descriptor, isOpen, isBound}
 use Rattle.flow.specs.Links.{linked, used}
-use Rattle.flow.specs.Calls.{Kind, fork, kindNumber, Call, Change, change, after}
+use Rattle.flow.specs.Calls.{Kind, fork, kindNumber, Call, sortOf, Change, change, after}
 use Rattle.flow.specs.Rules.{broken, Numbered, lowestBroken}
 use Rattle.flow.specs.Records.{recordLength, kindOf, frameTests, callOf, recordsOf}
-use Rattle.flow.specs.Refusals.{Need, openDescriptor, boundName, aLink, usedContainer, needOf, callTests, ruleTests, recordTests, refusal}
+use Rattle.flow.specs.Refusals.{Need, openDescriptor, boundName, aMapping, usedContainer, needOf, callTests, ruleTests, recordTests, refusal}
 use Rattle.flow.specs.Verdicts.{allows, inhibits, modifies, diversion, mayDivert, breaksNone, outcome, refused, allow, inhibit, answer, next, answerAll, runLog}
 use Rattle.flow.specs.Queries.{Reply, refuse, result, holders, holdersQuery, holdersSlice}
 use Rattle.flow.specs.Contents.{Step, entry, stateAt}
@@ -36,7 +36,7 @@ pub data Applies (m : ℕ) : List Test → Type 0 where
   this-test : {t : Test} {ts : List Test} → t ≡ some m → Applies m (t ∷ ts)
   later-test : {t : Test} {ts : List Test} → Applies m ts → Applies m (t ∷ ts)
 
--- 02, Paper 2: the places of the tests of a record, each with its numbers (13 is a query's)
+-- 02, Paper 2: the places of the tests of a record, each with its numbers (13 is a query's); Paper 4: 17 after 10
 unfoldable pub places : List (List ℕ)
 places =
     (1 ∷ [])
@@ -49,6 +49,7 @@ places =
     ∷ (8 ∷ 14 ∷ 15 ∷ 16 ∷ [])
     ∷ (9 ∷ [])
     ∷ (10 ∷ [])
+    ∷ (17 ∷ [])
     ∷ (11 ∷ [])
     ∷ (12 ∷ [])
     ∷ []
@@ -72,7 +73,7 @@ StandAt (m ∷ ms) [] = ⊥
 unfoldable pub TestsInPlace : Type 0
 TestsInPlace =
     ((bytes : List ℕ) → StandAt (1 ∷ 2 ∷ 3 ∷ []) (frameTests bytes))
-    × ((t : Tables) (q : Call) → StandAt (5 ∷ 6 ∷ 7 ∷ 8 ∷ 9 ∷ 10 ∷ []) (callTests t (some q)))
+    × ((t : Tables) (q : Call) → StandAt (5 ∷ 6 ∷ 7 ∷ 8 ∷ 9 ∷ 10 ∷ 17 ∷ []) (callTests t (some q)))
     × ((t : Tables) → StandAt (4 ∷ []) (callTests t none))
     × ((s : State) (r : Rule) → StandAt (4 ∷ 5 ∷ 9 ∷ 11 ∷ 12 ∷ []) (ruleTests s r))
 
@@ -90,15 +91,21 @@ OneOfAPlace =
 unfoldable pub Lacks : List ℕ → Need → (Call → Type 0) → Type 0
 Lacks bytes x P = (q : Call) × (callOf bytes ≡ some q) × (needOf (q .kind) ≡ x) × P q
 
--- 02, Paper 2: the number tells what was missing
+-- 02, Paper 2: the number tells what was missing; Paper 4: 16, a mapping of the sort that field b names
 unfoldable pub NumberTells : Type 0
 NumberTells =
     (s : State) (bytes : List ℕ)
     → (let t = s .tables in
     (answer s bytes ≡ refused 14 → Lacks bytes openDescriptor (λ q. isOpen t (q .process) (q .a) ≡ false))
     × (answer s bytes ≡ refused 15 → Lacks bytes boundName (λ q. isBound t (q .a) ≡ false))
-    × (answer s bytes ≡ refused 16 → Lacks bytes aLink (λ q. (has (feedersOf t (q .process)) (q .a) || has (feeds t (q .process)) (q .a)) ≡ false))
+    × (answer s bytes ≡ refused 16 → Lacks bytes aMapping (λ q. mappings t (sortOf (q .b)) (q .process) (q .a) ≡ 0))
     × (answer s bytes ≡ refused 8 → Lacks bytes usedContainer (λ q. used t (q .a) ≡ false)))
+
+-- 02, Paper 4: the link from container c to process p is there while either count is above 0, the link from p to c while the two-way count is
+unfoldable pub LinksByCounts : Type 0
+LinksByCounts =
+    (t : Tables) (p c : ℕ)
+    → (has (feedersOf t p) c ≡ (ltb 0 (mappings t toRead p c) || ltb 0 (mappings t bothWays p c))) × (has (feeds t p) c ≡ ltb 0 (mappings t bothWays p c))
 
 -- each kind has its number, and no other number is known
 unfoldable pub KindsNumbered : Type 0

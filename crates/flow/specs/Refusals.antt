@@ -6,11 +6,10 @@ use mathlib.Core.List.{List, [], _∷_, _++_}
 use mathlib.Core.Option.{Option, none, some}
 use lib.Dec.{ltb, leb, eqb}
 use lib.ListN.{length}
-use Rattle.sets.specs.Sets.{has}
 use Rattle.flow.specs.Lists.{Test, _⇒_, firstThat}
-use Rattle.flow.specs.Box.{containerCount, deviceCount, processCount, itemCount, nameCount, descriptorCount, ruleCount, isDevice, isFile, isTarget, Condition, forbid, separate, confine, Rule, Tables, State, isLive, feedersOf, feeds, descriptor, isOpen, isBound}
+use Rattle.flow.specs.Box.{containerCount, deviceCount, processCount, itemCount, nameCount, descriptorCount, ruleCount, isDevice, isFile, isTarget, mappingLimit, toRead, bothWays, Condition, forbid, separate, confine, Rule, Tables, State, isLive, mappings, descriptor, isOpen, isBound}
 use Rattle.flow.specs.Links.{used}
-use Rattle.flow.specs.Calls.{Kind, start, openName, create, pipe, device, dup, close, read, write, truncate, mapRead, mapBoth, unmap, unlink, rename, link, fork, exit, label, Call, isKind}
+use Rattle.flow.specs.Calls.{Kind, start, openName, create, pipe, device, dup, close, read, write, truncate, mapRead, mapBoth, unmap, unlink, rename, link, fork, exit, label, Call, isKind, sortOf}
 use Rattle.flow.specs.Rules.{broken}
 use Rattle.flow.specs.Records.{Reading, unreadable, aCall, aRule, frameTests, contentOf}
 
@@ -23,6 +22,7 @@ pub data Range : Type 0 where
   aDevice : Range
   aFile : Range
   anItem : Range
+  aSort : Range  -- of mapping: 0 for reading, 1 both ways (02, Paper 4)
   unused : Range  -- a field that the kind doesn't use must be 0
 
 unfoldable pub inRange : Range → ℕ → Bool
@@ -33,6 +33,7 @@ inRange aContainer x = ltb x containerCount
 inRange aDevice x = ltb x deviceCount
 inRange aFile x = isFile x
 inRange anItem x = ltb x itemCount
+inRange aSort x = ltb x 2
 inRange unused x = eqb x 0
 
 -- of the process field and the fields a, b, c
@@ -58,7 +59,7 @@ ranges write = row aProcess aDescriptor unused unused
 ranges truncate = row aProcess aDescriptor unused unused
 ranges mapRead = row aProcess aDescriptor unused unused
 ranges mapBoth = row aProcess aDescriptor unused unused
-ranges unmap = row aProcess aContainer unused unused
+ranges unmap = row aProcess aContainer aSort unused
 ranges unlink = row aProcess aName unused unused
 ranges rename = row aProcess aName aName unused
 ranges link = row aProcess aName aName unused
@@ -69,7 +70,7 @@ ranges label = row unused aContainer anItem unused
 unfoldable pub fieldsFit : Ranges → Call → Bool
 fieldsFit r q = inRange (r .process) (q .process) && inRange (r .a) (q .a) && inRange (r .b) (q .b) && inRange (r .c) (q .c)
 
--- ---- 6 to 10, and 14 to 16 in the place of 8: the tables before the call, process p, fields a, b, c
+-- ---- 6 to 10, 14 to 16 in the place of 8, and 17 after 10: the tables before the call, process p, fields a, b, c
 -- 6: the calling process isn't live (not for start, label)
 unfoldable pub dead : Tables → Call → Bool
 dead t q = not (isKind start q || isKind label q) && not (isLive t (q .process))
@@ -102,7 +103,7 @@ pub data Need : Type 0 where
   noNeed : Need
   openDescriptor : Need  -- descriptor a
   boundName : Need  -- name a
-  aLink : Need  -- between the process and container a, either way
+  aMapping : Need  -- of container a, of the sort that field b names
   usedContainer : Need  -- container a
 
 unfoldable pub needOf : Kind → Need
@@ -118,7 +119,7 @@ needOf write = openDescriptor
 needOf truncate = openDescriptor
 needOf mapRead = openDescriptor
 needOf mapBoth = openDescriptor
-needOf unmap = aLink
+needOf unmap = aMapping
 needOf unlink = boundName
 needOf rename = boundName
 needOf link = boundName
@@ -126,13 +127,14 @@ needOf fork = noNeed
 needOf exit = noNeed
 needOf label = usedContainer
 
--- 02, Paper 2, all in the place of 8: 14 descriptor closed, 15 name unbound, 16 no link to unmap; 8 container to label not in use
-unfoldable pub missing : Tables → ℕ → ℕ → Need → Test
-missing t p a noNeed = none
-missing t p a openDescriptor = not (isOpen t p a) ⇒ 14
-missing t p a boundName = not (isBound t a) ⇒ 15
-missing t p a aLink = not (has (feedersOf t p) a || has (feeds t p) a) ⇒ 16
-missing t p a usedContainer = not (used t a) ⇒ 8
+-- 02, Paper 2, all in the place of 8: 14 descriptor closed, 15 name unbound, 8 container to label not in use; Paper 4: 16 the named sort's
+-- count is 0
+unfoldable pub missing : Tables → ℕ → ℕ → ℕ → Need → Test
+missing t p a b noNeed = none
+missing t p a b openDescriptor = not (isOpen t p a) ⇒ 14
+missing t p a b boundName = not (isBound t a) ⇒ 15
+missing t p a b aMapping = eqb (mappings t (sortOf b) p a) 0 ⇒ 16
+missing t p a b usedContainer = not (used t a) ⇒ 8
 
 -- 9: pipe's two descriptors equal
 unfoldable pub sameDescriptors : Call → Bool
@@ -142,6 +144,12 @@ sameDescriptors q = isKind pipe q && eqb (q .a) (q .b)
 unfoldable pub noFile : Tables → Call → Bool
 noFile t q = isKind truncate q && isDevice (descriptor t (q .process) (q .a))
 
+-- 17: the count that would rise is at 255, of the container that descriptor a leads to (02, Paper 4)
+unfoldable pub full : Tables → Call → Bool
+full t q =
+    let c = descriptor t (q .process) (q .a) in
+    (isKind mapRead q && leb mappingLimit (mappings t toRead (q .process) c)) || (isKind mapBoth q && leb mappingLimit (mappings t bothWays (q .process) c))
+
 -- ---- the tests of a call; 4 where its kind is unknown
 unfoldable pub callTests : Tables → Option Call → List Test
 callTests t none = some 4 ∷ []
@@ -149,9 +157,10 @@ callTests t (some q) =
     (not (fieldsFit (ranges (q .kind)) q) ⇒ 5)
     ∷ (dead t q ⇒ 6)
     ∷ (taken t (q .process) (q .a) (q .b) (q .c) (q .kind) ⇒ 7)
-    ∷ missing t (q .process) (q .a) (needOf (q .kind))
+    ∷ missing t (q .process) (q .a) (q .b) (needOf (q .kind))
     ∷ (sameDescriptors q ⇒ 9)
     ∷ (noFile t q ⇒ 10)
+    ∷ (full t q ⇒ 17)
     ∷ []
 
 -- ---- the tests of a rule

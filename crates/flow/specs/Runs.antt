@@ -1,5 +1,5 @@
 -- Document 01, Runs to check: the starred runs as one list, and two examples that contents do move. 02, Paper 1: the holders after some logs;
--- Paper 2: which thing was missing; Paper 3: map both.
+-- Paper 2: which thing was missing; Paper 3: map both; Paper 4: mapped twice.
 use Prim.Native.Nat.{ℕ, _+_}
 use mathlib.Core.Path.{_≡_}
 use mathlib.Core.Bool.{true, false}
@@ -86,9 +86,9 @@ starred =
     ∷ check (call start 0 0 0 0 ++ call pipe 0 3 3 24 ++ call create 0 0 0 24 ++ call pipe 0 3 3 24) (allow ∷ refused 9 ∷ allow ∷ refused 7 ∷ []) []
     -- G: 8, 24 and 9 hold 2
     ∷ check shared (allowed 9) (holding 8 4 ∷ holding 24 4 ∷ holding 9 4 ∷ [])
-    -- H: truncate 24: it still holds 2. Process 0 unmaps 24 and truncates again: 24 is empty, 9 holds 2
+    -- H: truncate 24: it still holds 2. Process 0 unmaps 24 (02, Paper 4: b = 1) and truncates again: 24 is empty, 9 holds 2
     ∷ check (shared ++ call truncate 0 0 0 0) (allowed 10) (holding 24 4 ∷ [])
-    ∷ check (shared ++ call truncate 0 0 0 0 ++ call unmap 0 24 0 0 ++ call truncate 0 0 0 0) (allowed 12) (holding 24 0 ∷ holding 9 4 ∷ [])
+    ∷ check (shared ++ call truncate 0 0 0 0 ++ call unmap 0 24 1 0 ++ call truncate 0 0 0 0) (allowed 12) (holding 24 0 ∷ holding 9 4 ∷ [])
     -- I: create, label, close: the item stays. Unlink too: 24 is empty and may be created again
     ∷ check (filed ++ call close 0 0 0 0) (allowed 4) (holding 24 2 ∷ [])
     ∷ check (filed ++ call close 0 0 0 0 ++ call unlink 0 5 0 0) (allowed 5) (holding 24 0 ∷ [])
@@ -146,7 +146,7 @@ further =
     []
     -- a dead process leaves no descriptors and no links: started again it has none
     ∷ check
-    (call start 0 0 0 0 ++ call create 0 0 0 24 ++ call mapBoth 0 0 0 0 ++ call exit 0 0 0 0 ++ call start 0 0 0 0 ++ call read 0 0 0 0 ++ call unmap 0 24 0 0 ++ call label 0 24 1 0)
+    (call start 0 0 0 0 ++ call create 0 0 0 24 ++ call mapBoth 0 0 0 0 ++ call exit 0 0 0 0 ++ call start 0 0 0 0 ++ call read 0 0 0 0 ++ call unmap 0 24 1 0 ++ call label 0 24 1 0)
     (allowed 5 ++ refused 14 ∷ refused 16 ∷ allow ∷ [])
     (holding 24 2 ∷ holding 8 0 ∷ [])
     -- a child has the parent's descriptors, and its links in each direction
@@ -218,7 +218,7 @@ unfoldable pub lacking : List Check
 lacking =
     -- each kind that needs something: descriptor 3 is closed, name 3 unbound, 24 not mapped, 24 not in use
     check
-    (call start 0 0 0 0 ++ call dup 0 3 4 0 ++ call close 0 3 0 0 ++ call read 0 3 0 0 ++ call write 0 3 0 0 ++ call truncate 0 3 0 0 ++ call mapRead 0 3 0 0 ++ call mapBoth 0 3 0 0 ++ call openName 0 3 3 0 ++ call unlink 0 3 0 0 ++ call rename 0 3 4 0 ++ call link 0 3 4 0 ++ call unmap 0 24 0 0 ++ call label 0 24 3 0)
+    (call start 0 0 0 0 ++ call dup 0 3 4 0 ++ call close 0 3 0 0 ++ call read 0 3 0 0 ++ call write 0 3 0 0 ++ call truncate 0 3 0 0 ++ call mapRead 0 3 0 0 ++ call mapBoth 0 3 0 0 ++ call openName 0 3 3 0 ++ call unlink 0 3 0 0 ++ call rename 0 3 4 0 ++ call link 0 3 4 0 ++ call unmap 0 24 1 0 ++ call label 0 24 3 0)
     (allowed 1 ++ table 7 (λ k. refused 14) ++ table 4 (λ k. refused 15) ++ refused 16 ∷ refused 8 ∷ [])
     []
     -- the earliest place decides. Dup of a closed descriptor onto an open one is 7, onto a closed one 14, even onto itself; a pipe with one
@@ -230,7 +230,7 @@ lacking =
     []
     -- a file whose name, descriptor and links end one by one
     ∷ check
-    (call start 0 0 0 0 ++ call create 0 5 0 24 ++ call mapBoth 0 0 0 0 ++ call unlink 0 5 0 0 ++ call openName 0 5 1 0 ++ call close 0 0 0 0 ++ call read 0 0 0 0 ++ call label 0 24 1 0 ++ call unmap 0 24 0 0 ++ call unmap 0 24 0 0 ++ call label 0 24 1 0)
+    (call start 0 0 0 0 ++ call create 0 5 0 24 ++ call mapBoth 0 0 0 0 ++ call unlink 0 5 0 0 ++ call openName 0 5 1 0 ++ call close 0 0 0 0 ++ call read 0 0 0 0 ++ call label 0 24 1 0 ++ call unmap 0 24 1 0 ++ call unmap 0 24 1 0 ++ call label 0 24 1 0)
     (allowed 4 ++ refused 15 ∷ allow ∷ refused 14 ∷ allow ∷ allow ∷ refused 16 ∷ refused 8 ∷ [])
     (holding 8 2 ∷ holding 24 0 ∷ [])
     ∷ []
@@ -255,17 +255,67 @@ mappingBoth =
     -- where item 2 may not be in process 1, or item 1 not in 25, it is inhibited, and no link is laid: item 4 on 24 stays on its side, and
     -- there is nothing to unmap
     ∷ check
-    (setRule 0x11 2 0 0 2 0 0 0 ++ twoSides ++ call mapBoth 0 0 0 0 ++ call label 0 24 4 0 ++ call unmap 0 24 0 0)
+    (setRule 0x11 2 0 0 2 0 0 0 ++ twoSides ++ call mapBoth 0 0 0 0 ++ call label 0 24 4 0 ++ call unmap 0 24 1 0)
     (rule 0 ∷ allowed 9 ++ inhibit 0 ∷ allow ∷ refused 16 ∷ [])
     (holding 8 4 ∷ holding 25 4 ∷ holding 24 18 ∷ holding 9 18 ∷ [])
     ∷ check
-    (setRule 0x11 1 2 0 0 0 0 0 ++ twoSides ++ call mapBoth 0 0 0 0 ++ call label 0 24 4 0 ++ call unmap 0 24 0 0)
+    (setRule 0x11 1 2 0 0 0 0 0 ++ twoSides ++ call mapBoth 0 0 0 0 ++ call label 0 24 4 0 ++ call unmap 0 24 1 0)
     (rule 0 ∷ allowed 9 ++ inhibit 0 ∷ allow ∷ refused 16 ∷ [])
     (holding 8 4 ∷ holding 25 4 ∷ holding 24 18 ∷ holding 9 18 ∷ [])
     ∷ []
 
 unfoldable pub MappingBoth : Type 0
 MappingBoth = map outcomeOf mappingBoth ≡ mappingBoth
+
+-- ---- 02, Paper 4: mapped twice
+-- process 0 has 24, the beat buffer, open and maps it for reading twice, as two nested callbacks do
+unfoldable pub nested : List ℕ
+nested = call start 0 0 0 0 ++ call create 0 0 0 24 ++ call mapRead 0 0 0 0 ++ call mapRead 0 0 0 0
+
+-- process 0 maps 24 both ways once, and once for reading
+unfoldable pub twoSorts : List ℕ
+twoSorts = call start 0 0 0 0 ++ call create 0 0 0 24 ++ call mapBoth 0 0 0 0 ++ call mapRead 0 0 0 0
+
+unfoldable pub mappedTwice : List Check
+mappedTwice =
+    -- one unmap: what comes to 24 still reaches process 0 (container 8). The second unmap ends the link: item 2 does not, and a third is 16
+    check
+    (nested ++ call unmap 0 24 0 0 ++ call label 0 24 1 0 ++ call unmap 0 24 0 0 ++ call label 0 24 2 0 ++ call unmap 0 24 0 0)
+    (allowed 8 ++ refused 16 ∷ [])
+    (holding 8 2 ∷ holding 24 6 ∷ [])
+    -- both sorts: the two-way unmap ends the way back only. Item 1 of the process does not come to 24, item 2 of 24 comes to the process. No
+    -- two-way mapping is left to unmap, and the one for reading is
+    ∷ check
+    (twoSorts ++ call unmap 0 24 1 0 ++ call label 0 8 1 0 ++ call label 0 24 2 0 ++ call unmap 0 24 1 0 ++ call unmap 0 24 0 0 ++ call label 0 24 3 0)
+    (allowed 7 ++ refused 16 ∷ allow ∷ allow ∷ [])
+    (holding 8 6 ∷ holding 24 12 ∷ [])
+    -- the unmap for reading leaves both links, and no further mapping for reading: a two-way one is none
+    ∷ check
+    (twoSorts ++ call unmap 0 24 0 0 ++ call label 0 8 1 0 ++ call label 0 24 2 0 ++ call unmap 0 24 0 0 ++ call unmap 0 24 2 0)
+    (allowed 7 ++ refused 16 ∷ refused 5 ∷ [])
+    (holding 8 6 ∷ holding 24 6 ∷ [])
+    -- a child has the counts of its parent, and lowers its own: of two mappings it unmaps one, then the other
+    ∷ check
+    (nested ++ call fork 0 1 0 0 ++ call unmap 1 24 0 0 ++ call label 0 24 1 0 ++ call unmap 1 24 0 0 ++ call label 0 24 2 0)
+    (allowed 9)
+    (holding 8 6 ∷ holding 9 2 ∷ [])
+    -- an exit clears them: the next process 0 has none of either sort, and its one mapping ends by one unmap
+    ∷ check
+    (nested ++ call mapBoth 0 0 0 0 ++ call exit 0 0 0 0 ++ call start 0 0 0 0 ++ call unmap 0 24 0 0 ++ call unmap 0 24 1 0 ++ call openName 0 0 0 0 ++ call mapRead 0 0 0 0 ++ call unmap 0 24 0 0 ++ call label 0 24 1 0)
+    (allowed 7 ++ refused 16 ∷ refused 16 ∷ allowed 4)
+    (holding 8 0 ∷ holding 24 2 ∷ [])
+    -- 24 stays in use while a mapping is left: its name and its descriptor ended, the second unmap empties it
+    ∷ check (nested ++ call label 0 24 1 0 ++ call unlink 0 0 0 0 ++ call close 0 0 0 0 ++ call unmap 0 24 0 0) (allowed 8) (holding 24 2 ∷ holding 8 2 ∷ [])
+    ∷ check (nested ++ call label 0 24 1 0 ++ call unlink 0 0 0 0 ++ call close 0 0 0 0 ++ call unmap 0 24 0 0 ++ call unmap 0 24 0 0) (allowed 9) (holding 24 0 ∷ holding 8 2 ∷ [])
+    -- the write of what came over the link that is left is inhibited
+    ∷ check
+    (setRule 0x11 1 0 0 0 1 0 0 ++ nested ++ call device 0 1 0 0 ++ call unmap 0 24 0 0 ++ call label 0 24 1 0 ++ call write 0 1 0 0)
+    (rule 0 ∷ allowed 7 ++ inhibit 0 ∷ [])
+    (holding 8 2 ∷ holding 0 0 ∷ [])
+    ∷ []
+
+unfoldable pub MappedTwice : Type 0
+MappedTwice = map outcomeOf mappedTwice ≡ mappedTwice
 
 -- ---- contents do move
 -- the sum of the contents of what links to a container

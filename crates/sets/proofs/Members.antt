@@ -34,7 +34,7 @@ low-digit x = rw (has-zero x) (go (x % 2) (omega arith))
 
 -- x is the digit b and the rest m
 module _ {x : ℕ} (b : Bool) (m : ℕ) (e : x ≡ bit b + 2 * m) where
-  made-zero : has x 0 ≡ b
+  pub made-zero : has x 0 ≡ b
   unfolding bit
   made-zero = has-zero x ∙ go b e
     where
@@ -42,7 +42,7 @@ module _ {x : ℕ} (b : Bool) (m : ℕ) (e : x ≡ bit b + 2 * m) where
       go true e = let o : x % 2 ≡ 1 = omega arith in rw o refl
       go false e = let o : x % 2 ≡ 0 = omega arith in rw o refl
 
-  made-suc : (i : ℕ) → has x (suc i) ≡ has m i
+  pub made-suc : (i : ℕ) → has x (suc i) ≡ has m i
   unfolding bit
   made-suc i = has-suc x i ∙ ap (λ (n : ℕ). has n i) (go b e)
     where
