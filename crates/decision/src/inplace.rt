@@ -54,7 +54,7 @@ const DIVERT: u8 = 1;
 
 // Makes the arrays those of a fresh tracker without rules.
 pub fn renew(
-    words: &mut [u64; 97],
+    words: &mut [u64; 353],
     descriptors: &mut [u8; 512],
     names: &mut [u8; 128],
     sets: &mut [u64; 32],
@@ -71,7 +71,7 @@ pub fn renew(
 
 // A call that rule k stops: a write may go to the rule's substitute. Answers the container that it went to, or 64.
 fn stop_in(
-    words: &mut [u64; 97],
+    words: &mut [u64; 353],
     descriptors: &[u8; 512],
     names: &[u8; 128],
     sets: &[u64; 32],
@@ -102,7 +102,7 @@ fn stop_in(
 
 // Judges what a call that is not refused gives, and makes it where no rule is broken. Answers the rule that stops it, or 32.
 fn give_judged(
-    words: &mut [u64; 97],
+    words: &mut [u64; 353],
     descriptors: &[u8; 512],
     names: &[u8; 128],
     sets: &[u64; 32],
@@ -123,7 +123,7 @@ fn give_judged(
 
 // The same of every kind: those that cannot give are neither planned nor judged. Apart, so that the compiler leads them past it.
 fn give_in(
-    words: &mut [u64; 97],
+    words: &mut [u64; 353],
     descriptors: &[u8; 512],
     names: &[u8; 128],
     sets: &[u64; 32],
@@ -142,7 +142,7 @@ fn give_in(
 
 // What a call of any five bytes gets.
 pub fn call_in(
-    words: &mut [u64; 97],
+    words: &mut [u64; 353],
     descriptors: &mut [u8; 512],
     names: &mut [u8; 128],
     sets: &[u64; 32],
@@ -170,7 +170,7 @@ pub fn call_in(
 
 // What a rule gets.
 fn load_in(
-    words: &[u64; 97],
+    words: &[u64; 353],
     sets: &mut [u64; 32],
     fields: &mut [u8; 129],
     rule: RuleFields,
@@ -220,7 +220,7 @@ fn rule(tag: u8, item: u8, set: u64, action: u8, substitute: u8) -> RuleFields
 
 // What the record at the front of the bytes gets.
 pub fn answer_in(
-    words: &mut [u64; 97],
+    words: &mut [u64; 353],
     descriptors: &mut [u8; 512],
     names: &mut [u8; 128],
     sets: &mut [u64; 32],
@@ -253,7 +253,7 @@ pub fn answer_in(
 
 // Answers the records of a log in order. Each answer goes to the front of `codes` as a number.
 pub fn run_in(
-    words: &mut [u64; 97],
+    words: &mut [u64; 353],
     descriptors: &mut [u8; 512],
     names: &mut [u8; 128],
     sets: &mut [u64; 32],

@@ -17,7 +17,7 @@ use tracker::queries::Reply;
 // A tracker with its rules: what document 01 calls a tracker. Its layout is C's, for callers that keep it in their own memory.
 #[repr(C)]
 pub struct Monitor {
-    pub words: [u64; 97],
+    pub words: [u64; 353],
     pub descriptors: [u8; 512],
     pub names: [u8; 128],
     pub sets: [u64; 32],

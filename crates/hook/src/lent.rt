@@ -26,7 +26,7 @@ fn give(reply: Reply, out: &mut u64) -> u8
 }
 
 pub fn call_lent(
-    words: &mut [u64; 97],
+    words: &mut [u64; 353],
     descriptors: &mut [u8; 512],
     names: &mut [u8; 128],
     sets: &[u64; 32],
@@ -40,7 +40,7 @@ pub fn call_lent(
 }
 
 pub fn answer_lent(
-    words: &mut [u64; 97],
+    words: &mut [u64; 353],
     descriptors: &mut [u8; 512],
     names: &mut [u8; 128],
     sets: &mut [u64; 32],
@@ -54,7 +54,7 @@ pub fn answer_lent(
 }
 
 pub fn run_lent(
-    words: &mut [u64; 97],
+    words: &mut [u64; 353],
     descriptors: &mut [u8; 512],
     names: &mut [u8; 128],
     sets: &mut [u64; 32],
@@ -71,7 +71,7 @@ pub fn run_lent(
 
 // The query looks at one array; the others are lent for the contract, which speaks of the monitor.
 pub fn items_lent(
-    words: &[u64; 97],
+    words: &[u64; 353],
     descriptors: &[u8; 512],
     names: &[u8; 128],
     sets: &[u64; 32],
@@ -86,7 +86,7 @@ pub fn items_lent(
 }
 
 pub fn holders_lent(
-    words: &[u64; 97],
+    words: &[u64; 353],
     descriptors: &[u8; 512],
     names: &[u8; 128],
     sets: &[u64; 32],

@@ -45,7 +45,7 @@ fn gets(plan: Plan, i: u64) -> u64
 }
 
 // The items of the containers of the set.
-fn held(words: &[u64; 97], set: u64) -> u64
+fn held(words: &[u64; 353], set: u64) -> u64
     ensures { λ r. ⌜ Held (itemsIn (now (words .entry))) set r ⌝ }
 {
     let mut found = 0u64;
@@ -59,7 +59,7 @@ fn held(words: &[u64; 97], set: u64) -> u64
 }
 
 // The items that the containers of the set hold once the plan is made.
-fn met(words: &[u64; 97], plan: Plan, set: u64) -> u64
+fn met(words: &[u64; 353], plan: Plan, set: u64) -> u64
     ensures { λ r. ⌜ Met (itemsIn (now (words .entry))) plan set r ⌝ }
 {
     let kept = held(words, set & !plan.empty);
@@ -140,7 +140,7 @@ fn breaks_anew(plan: Plan, first: u64, second: u64, tag: u8, item: u8, set: u64)
 }
 
 // Judges from rule `start` on.
-fn judge_from(words: &[u64; 97], plan: Plan, sets: &[u64; 32], fields: &[u8; 129], start: u8) -> u8
+fn judge_from(words: &[u64; 353], plan: Plan, sets: &[u64; 32], fields: &[u8; 129], start: u8) -> u8
     ensures { λ r. ⌜ r ≡ anewFrom (itemsIn (now (words .entry))) plan (now (sets .entry)) (now (fields .entry)) start ⌝ }
 {
     let first = met(words, plan, plan.to);
@@ -161,7 +161,7 @@ fn judge_from(words: &[u64; 97], plan: Plan, sets: &[u64; 32], fields: &[u8; 129
 
 // The first rule that the plan breaks anew, and the number of rules where it breaks none. What the gifts meet is asked where a rule of tag 12 hex
 // speaks of an item given.
-pub fn judge(words: &[u64; 97], plan: Plan, sets: &[u64; 32], fields: &[u8; 129]) -> u8
+pub fn judge(words: &[u64; 353], plan: Plan, sets: &[u64; 32], fields: &[u8; 129]) -> u8
     ensures { λ r. ⌜ Judged (itemsIn (now (words .entry))) plan (now (sets .entry)) (now (fields .entry)) r ⌝ }
 {
     let end = count(fields);

@@ -81,7 +81,7 @@ fn breaks_with(x: u64, rule: RuleFields, c: u8) -> bool
 }
 
 // Whether the items break the rule.
-pub fn breaks_now(words: &[u64; 97], rule: RuleFields) -> bool
+pub fn breaks_now(words: &[u64; 353], rule: RuleFields) -> bool
     ensures { λ r. ⌜ r ≡ brokenIn (itemsIn (now (words .entry))) (conditionFrom rule) ⌝ }
 {
     for c in 0..CONTAINER_COUNT {

@@ -1,7 +1,10 @@
+pub mod Bytes
+pub mod Counting
 pub mod Parts
-pub mod Use
 pub mod BlockLaws
 pub mod Writes
+pub mod Storing
+pub mod Use
 pub mod Spreading
 pub mod Searching
 pub mod Worklist

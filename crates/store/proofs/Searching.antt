@@ -1,5 +1,5 @@
 -- The search for the reach: each process is gone through once.
-use Prim.Native.Nat.{ℕ, _/_, _%_, _^_, _<_}
+use Prim.Native.Nat.{ℕ, _+_, _/_, _%_, _^_, _<_}
 use native.Mathlib.Omega.{arith}
 use native.Mathlib.Nat.{mod-eq-of-lt}
 use native.Mathlib.Decide.{ℕ-discrete}
@@ -13,13 +13,12 @@ use borrow.Author.Tests.{lt-ltb, eqb-true, eq-eqb}
 use Rattle.sets.specs.Sets.{has, only, bit, thoseFrom, those, without, _∪_, _∩_, count, lowest, unionOf}
 use Rattle.sets.proofs.Members.{union-has, inter-has, inter-lt, only-has, none-has, those-has, without-le, without-part, without-other, union-lt, only-lt, has-below, count-less, member, turn-below}
 use Rattle.sets.proofs.Unions.{none-union, unionOf-part}
-use Rattle.flow.specs.Box.{containerOf, feedersOf, feeds}
+use Rattle.flow.specs.Box.{containerOf, Tables, feedersOf, feeds}
 use Rattle.flow.specs.Links.{linked, Reaches, here, onward, reach}
 use Rattle.flow.proofs.Bools.{or-elim, or-l, or-r, and-l, and-r, and-i, by, no-both, or-false-l, or-false-r, or-false-i, and-false-l}
 use Rattle.flow.proofs.Reach.{link-cases, link-in, link-out, is-reach}
 use Rattle.flow.proofs.Meets.{meets-of, meets-at}
-use Rattle.store.specs.Search.{fedFrom, comesNext, Finds}
-use Rattle.store.proofs.Spreading.{links}
+use Rattle.store.specs.Search.{feedersIn, fedFrom, comesNext, Finds}
 
 -- ---- members
 in-l : (x y i : ℕ) → has x i ≡ true → has (x ∪ y) i ≡ true
@@ -84,7 +83,7 @@ shifted x p = ap (λ (n : ℕ). eqb (n % 2) 1) (shr-shr x 8 p)
 abbrev ownOf : ℕ → ℕ → ℕ
 ownOf x left = (x / 2 ^ 8) ∩ left
 
-module _ (feeders : List ℕ) (x left : ℕ) where
+module _ (rows : List ℕ) (x left : ℕ) where
   own-has : (p : ℕ) → has (ownOf x left) p ≡ (has x (containerOf p) && has left p)
   own-has p = inter-has (x / 2 ^ 8) left p ∙ rw (shifted x p) refl
 
@@ -96,7 +95,7 @@ module _ (feeders : List ℕ) (x left : ℕ) where
     pub own-below : p < 64
     own-below = turn-below _ own-lt more p is
 
-    pub next-own : Finds (comesNext feeders x) left p
+    pub next-own : Finds (comesNext rows x) left p
     next-own =
         let m : (has x (containerOf p) && has left p) ≡ true = sym (own-has p) ∙ member _ own-lt more p is in
         record {
@@ -109,17 +108,19 @@ module _ (feeders : List ℕ) (x left : ℕ) where
     not-in p m = and-false-l _ (has left p) m (sym (own-has p) ∙ ap (λ (z : ℕ). has z p) e ∙ none-has p)
 
     -- none is, and nothing in the set feeds a process
-    pub next-none : length feeders ≡ 16 → left < 65536 → x ∩ unionOf feeders ≡ 0 → Finds (comesNext feeders x) left 64
+    pub next-none : length rows ≡ 32 → left < 65536 → x ∩ unionOf rows ≡ 0 → Finds (comesNext rows x) left 64
     next-none long small calm =
-        record { found = λ d. absurd (d refl); none = λ q p m. or-false-i _ _ (not-in p m) (by (fedFrom feeders x p) (λ k. meeting p m (meets-at x _ k)) (λ k. k)) }
+        record { found = λ d. absurd (d refl); none = λ q p m. or-false-i _ _ (not-in p m) (by (fedFrom rows x p) (λ k. meeting p m (meets-at x _ k)) (λ k. k)) }
       where
-        meeting : (p : ℕ) → has left p ≡ true → (i : ℕ) × (has x i ≡ true) × (has (getD feeders p 0) i ≡ true) → fedFrom feeders x p ≡ false
+        meeting : (p : ℕ) → has left p ≡ true → (i : ℕ) × (has x i ≡ true) × (has (feedersIn rows p) i ≡ true) → fedFrom rows x p ≡ false
         meeting p m w =
             let k : p < 16 = has-below 16 left p small m in
-            no-common x (unionOf feeders) (w .0) calm (w .1) (unionOf-part feeders p (w .0) (omega arith) (w .2))
+            in-cases (getD rows p 0) _ (w .0)
+            (λ h. no-common x (unionOf rows) (w .0) calm (w .1) (unionOf-part rows p (w .0) (omega arith) h))
+            (λ h. no-common x (unionOf rows) (w .0) calm (w .1) (unionOf-part rows (16 + p) (w .0) (omega arith) h)) (w .2)
 
     -- none is, but one may be fed
-    pub next-fed : (p : ℕ) → Finds (fedFrom feeders x) left p → Finds (comesNext feeders x) left p
+    pub next-fed : (p : ℕ) → Finds (fedFrom rows x) left p → Finds (comesNext rows x) left p
     next-fed p s =
         record {
           found = λ d. (s .found d .0, or-r (has x (containerOf p)) _ (s .found d .1));
@@ -142,10 +143,10 @@ module _ (rows : List ℕ) (p : ℕ) (hp : p < 16) where
   near-cases v a b = rw own-number (in-cases (getD rows p 0) (only (containerOf p)) v a (λ k. b (eqb-true (containerOf p) v (sym (only-has (containerOf p) v) ∙ k))))
 
 -- seen: what is known to be in the reach of u. left: the processes not gone through
-pub record Search (feeders fed : List ℕ) (u seen left : ℕ) : Type 0 where
+pub record Search (t : Tables) (fed : List ℕ) (u seen left : ℕ) : Type 0 where
   pub fits : seen < 2 ^ 64
   pub start : has seen u ≡ true
-  pub leads : (v : ℕ) → has seen v ≡ true → Reaches (links feeders fed) u v
+  pub leads : (v : ℕ) → has seen v ≡ true → Reaches t u v
   pub small : left < 65536
   pub gone : (p : ℕ) → p < 16 → has left p ≡ false → (v : ℕ) → has (near fed p) v ≡ true → has seen v ≡ true
 
@@ -157,8 +158,8 @@ sixteen = refl
 sixteen-has : (p : ℕ) → p < 16 → has 65535 p ≡ true
 sixteen-has p h = ap (λ (x : ℕ). has x p) sixteen ∙ those-has (λ p. ltb p 16) p (omega arith) ∙ lt-ltb p 16 h
 
-pub search-start : (f g : List ℕ) (u : ℕ) → u < 64 → Search f g u (0 ∪ only (u % 64)) 65535
-search-start f g u h =
+pub search-start : (t : Tables) (g : List ℕ) (u : ℕ) → u < 64 → Search t g u (0 ∪ only (u % 64)) 65535
+search-start t g u h =
     rw (none-union, mod-eq-of-lt h)
     (record {
       fits = only-lt u h;
@@ -168,24 +169,25 @@ search-start f g u h =
       gone = λ p hp k. no-both (sixteen-has p hp) k;
     })
 
-module _ {f g : List ℕ} {u seen left : ℕ} (s : Search f g u seen left) where
+-- f: the sets of all processes, g: those both ways alone, as the tables have them
+module _ (t : Tables) (f g : List ℕ) (ins : (p : ℕ) → p < 16 → feedersOf t p ≡ feedersIn f p) (outs : (p : ℕ) → p < 16 → feeds t p ≡ getD g p 0)
+    {u seen left : ℕ} (s : Search t g u seen left) where
   -- nothing comes next
-  pub search-over : u < 64 → ((p : ℕ) → getD g p 0 < 2 ^ 64) → (p : ℕ) → p ≡ 64 → Finds (comesNext f seen) left p → seen ≡ reach (links f g) u
-  unfolding feedersOf feeds
-  search-over h bound p e w = is-reach (links f g) bound u seen h (s .fits) (s .start) (s .leads) (λ v w. shut v w)
+  pub search-over : u < 64 → ((p : ℕ) → feeds t p < 2 ^ 64) → (p : ℕ) → p ≡ 64 → Finds (comesNext f seen) left p → seen ≡ reach t u
+  search-over h bound p e w = is-reach t bound u seen h (s .fits) (s .start) (s .leads) (λ v w. shut v w)
     where
       calm : (p : ℕ) → has left p ≡ true → comesNext f seen p ≡ false
       calm = w .none e
 
-      shut : (v w : ℕ) → has seen v ≡ true → linked (links f g) v w ≡ true → has seen w ≡ true
+      shut : (v w : ℕ) → has seen v ≡ true → linked t v w ≡ true → has seen w ≡ true
       shut v w m =
-          link-cases (links f g) v w
+          link-cases t v w
           (λ p hp q k. by (has left p)
-          (λ l. no-both (meets-of seen (getD f p 0) v m k) (or-false-r (has seen (containerOf p)) _ (calm p l)))
+          (λ l. no-both (meets-of seen (feedersIn f p) v m (rw (ins p hp) at k)) (or-false-r (has seen (containerOf p)) _ (calm p l)))
           (λ l. rw q (s .gone p hp l (containerOf p) (near-own g p hp))))
           (λ p hp q k. by (has left p)
           (λ l. no-both (rw q at m) (or-false-l _ (fedFrom f seen p) (calm p l)))
-          (λ l. s .gone p hp l w (in-l (getD g p 0) _ w k)))
+          (λ l. s .gone p hp l w (in-l (getD g p 0) _ w (rw (outs p hp) at k))))
 
   -- process p comes next: it and what it feeds are in the reach
   module _ (p : ℕ) (w : (has left p ≡ true) × (comesNext f seen p ≡ true)) where
@@ -195,14 +197,12 @@ module _ {f g : List ℕ} {u seen left : ℕ} (s : Search f g u seen left) where
     same : p % 64 ≡ p
     same = mod-eq-of-lt (omega (arith, next-lt))
 
-    next-leads : Reaches (links f g) u (containerOf p)
-    unfolding feedersOf
+    next-leads : Reaches t u (containerOf p)
     next-leads =
         or-elim (has seen (containerOf p)) (fedFrom f seen p) (s .leads (containerOf p))
-        (λ k. let i = meets-at seen (getD f p 0) k in onward (s .leads (i .0) (i .1)) (link-in (links f g) p next-lt (i .0) (i .2))) (w .1)
+        (λ k. let i = meets-at seen (feedersIn f p) k in onward (s .leads (i .0) (i .1)) (link-in t p next-lt (i .0) (ap (λ (z : ℕ). has z (i .0)) (ins p next-lt) ∙ i .2))) (w .1)
 
-    pub search-more : getD g p 0 < 2 ^ 64 → (seen′ left′ : ℕ) → seen′ ≡ seen ∪ near g p → left′ ≡ without left (p % 64) → Search f g u seen′ left′
-    unfolding feeds
+    pub search-more : getD g p 0 < 2 ^ 64 → (seen′ left′ : ℕ) → seen′ ≡ seen ∪ near g p → left′ ≡ without left (p % 64) → Search t g u seen′ left′
     search-more bound seen′ left′ e e′ =
         rw (e, e′, same)
         (record {
@@ -210,7 +210,7 @@ module _ {f g : List ℕ} {u seen left : ℕ} (s : Search f g u seen left) where
           start = in-l seen _ u (s .start);
           leads = λ v.
               in-cases seen (near g p) v (s .leads v)
-              (near-cases g p next-lt v (λ k. onward next-leads (link-out (links f g) p next-lt v k)) (λ k. rw k at next-leads));
+              (near-cases g p next-lt v (λ k. onward next-leads (link-out t p next-lt v (ap (λ (z : ℕ). has z v) (outs p next-lt) ∙ k))) (λ k. rw k at next-leads));
           small = omega (arith, without-le left p (omega (arith, s .small)) (omega (arith, next-lt)), s .small);
           gone = λ q hq k. go q hq k (ℕ-discrete q p);
         })

@@ -2,16 +2,11 @@
 use Prim.Native.Nat.{ℕ, zero, suc}
 use mathlib.Core.Path.{_≡_, refl, ap, ap₂, _∙_}
 use mathlib.Core.Bool.{true, false, _||_}
-use mathlib.Core.List.{List, []}
 use lib.Dec.{eqb}
 use Rattle.sets.specs.Sets.{has, only, _∪_}
 use Rattle.flow.specs.Box.{containerOf, Tables, feedersOf, feeds}
 use Rattle.flow.specs.Links.{meets, through, throughEach, closure, reach}
 use Rattle.flow.proofs.Bools.{choices}
-
--- the links alone
-abbrev pub links : List ℕ → List ℕ → Tables
-links feeders fed = record { live = 0; feeders = feeders; fed = fed; descriptors = []; names = [] }
 
 -- ---- the reach goes by the links alone
 module _ (s t : Tables) (ins : (p : ℕ) → feedersOf s p ≡ feedersOf t p) (outs : (p : ℕ) → feeds s p ≡ feeds t p) where

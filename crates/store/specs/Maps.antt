@@ -1,5 +1,5 @@
--- How three lent arrays stand for the maps of document 01, The box: the storage map, the alias map and the naming maps.
-use Prim.Native.Nat.{ℕ}
+-- How three lent arrays stand for the maps of document 01, The box: the storage map, the alias map (02, Paper 4) and the naming maps.
+use Prim.Native.Nat.{ℕ, suc, _+_, _-_, _*_, _/_, _%_, _^_}
 use mathlib.Core.Bool.{true, false}
 use mathlib.Core.List.{List, [], _∷_}
 use lib.Dec.{ltb}
@@ -37,15 +37,38 @@ part a n l = take n (drop a l)
 abbrev pub itemsIn : List ℕ → List ℕ
 itemsIn words = part 1 containerCount words
 
--- the words: the set of live processes at 0, the items from 1 on, the feeders from 65 on, the fed from 81 on
+-- byte j of a word, and the word with that byte made n
+unfoldable pub byteOf : ℕ → ℕ → ℕ
+byteOf w j = w / 2 ^ (8 * j) % 256
+
+unfoldable pub putByte : ℕ → ℕ → ℕ → ℕ
+putByte w j n = (w / 2 ^ (8 * j) - byteOf w j + n) * 2 ^ (8 * j) + w % 2 ^ (8 * j)
+
+-- the row of counts of process p: 0 where the set x lacks the container, else one more than its byte. Whatever is stored is a row
+unfoldable pub rowIn : ℕ → List ℕ → ℕ → List ℕ
+rowIn x counts p = table containerCount (λ c. elim (has x c) [ true ↦ suc (byteOf (getD counts (8 * p + c / 8) 0) (c % 8)) | false ↦ 0 ])
+
+-- the rows of one sort, by its sets and its words of counts
+unfoldable pub rowsIn : List ℕ → List ℕ → List (List ℕ)
+rowsIn sets counts = table processCount (λ p. rowIn (getD sets p 0) counts p)
+
+-- where the set of a sort and process stands in the words, and the word with the count of container c
+unfoldable pub setPlace : ℕ → ℕ → ℕ
+setPlace x p = 65 + 16 * x + p
+
+unfoldable pub countPlace : ℕ → ℕ → ℕ → ℕ
+countPlace x p c = 97 + 128 * x + (8 * p + c / 8)
+
+-- the words: the set of live processes at 0, the items from 1 on, the sets mapped for reading from 65 on, those mapped both ways from 81 on,
+-- the counts of either sort from 97 and from 225 on
 unfoldable pub view : List ℕ → List ℕ → List ℕ → Maps
 view words descriptors names =
     record {
       tables =
           record {
             live = getD words 0 0;
-            feeders = part 65 processCount words;
-            fed = part 81 processCount words;
+            reads = rowsIn (part 65 processCount words) (part 97 128 words);
+            boths = rowsIn (part 81 processCount words) (part 225 128 words);
             descriptors = descriptors;
             names = names;
           };

@@ -1,15 +1,13 @@
-// Stores: of the live processes, of one process's links, of one entry, and of items.
+// Stores: of the live processes, of one entry, and of items.
 use crate::Plan;
 use crate::gifts::empty;
 use crate::gifts::empty_at;
 use crate::gifts::give;
 use crate::limits::BLOCK;
 use crate::limits::CONTAINERS;
-use crate::limits::FED_AT;
-use crate::limits::FEEDERS_AT;
 use crate::limits::ITEMS_AT;
 use crate::limits::NAMES;
-use crate::limits::PROCESSES;
+use crate::limits::READS_AT;
 use crate::numbers::Descriptor;
 use crate::numbers::Name;
 use crate::numbers::Process;
@@ -19,25 +17,14 @@ ghost use mathlib.Core.List.{List};
 ghost use lib.ListN.{set, length};
 ghost use Rattle.sets.specs.Sets.{only};
 ghost use Rattle.flow.specs.Box.{slot};
-ghost use Rattle.flow.specs.Calls.{withLive, withLinks};
+ghost use Rattle.flow.specs.Calls.{withLive};
 ghost use Rattle.store.specs.Maps.{view, withTables, withItems, cleared, containerSet, itemsBy};
 
-pub fn set_live(words: &mut [u64; 97], x: u64)
+pub fn set_live(words: &mut [u64; 353], x: u64)
     ensures { λ _. ⌜ ((d n : List ℕ) → let m = view (now (words .entry)) d n in view (now (words .exit)) d n ≡ withTables m (withLive (m .tables) x)) ⌝ }
 {
     let cells: &mut [u64] = words;
     cells[0] = x;
-}
-
-// The containers that feed process p, and those that it feeds.
-pub fn set_links(words: &mut [u64; 97], p: Process, x: u64, y: u64)
-    ensures { λ _. ⌜ ((d n : List ℕ) → let m = view (now (words .entry)) d n in view (now (words .exit)) d n ≡ withTables m (withLinks (m .tables) (p .0) x y)) ⌝ }
-{
-    if p.0 < PROCESSES {
-        let i = p.0 as usize;
-        words[FEEDERS_AT + i] = x;
-        words[FED_AT + i] = y;
-    }
 }
 
 fn set_entry(table: &mut [u8], i: usize, e: u8)
@@ -72,28 +59,28 @@ fn make(items: &mut [u64], plan: Plan)
 }
 
 fn make_part(words: &mut [u64], plan: Plan)
-    requires { ⌜ length (now words) ≡ 97 ⌝ }
+    requires { ⌜ length (now words) ≡ 353 ⌝ }
     ensures { λ _. ⌜ ((d n : List ℕ) → let m = view (now (words .entry)) d n in view (now (words .exit)) d n ≡ withItems m (itemsBy (m .items) plan)) ⌝ }
 {
-    make(&mut words[ITEMS_AT..FEEDERS_AT], plan);
+    make(&mut words[ITEMS_AT..READS_AT], plan);
 }
 
 // Makes a plan of the items.
-pub fn make_items(words: &mut [u64; 97], plan: Plan)
+pub fn make_items(words: &mut [u64; 353], plan: Plan)
     ensures { λ _. ⌜ ((d n : List ℕ) → let m = view (now (words .entry)) d n in view (now (words .exit)) d n ≡ withItems m (itemsBy (m .items) plan)) ⌝ }
 {
     make_part(words, plan);
 }
 
 fn empty_one_part(words: &mut [u64], c: u8)
-    requires { ⌜ length (now words) ≡ 97 ⌝ }
+    requires { ⌜ length (now words) ≡ 353 ⌝ }
     ensures { λ _. ⌜ ((d n : List ℕ) → let m = view (now (words .entry)) d n in view (now (words .exit)) d n ≡ withItems m (cleared (m .items) (only (c % 64)))) ⌝ }
 {
-    empty_at(&mut words[ITEMS_AT..FEEDERS_AT], c);
+    empty_at(&mut words[ITEMS_AT..READS_AT], c);
 }
 
 // Empties the container of number e, where there is one: a closed entry's has none.
-pub fn empty_container(words: &mut [u64; 97], e: u8)
+pub fn empty_container(words: &mut [u64; 353], e: u8)
     ensures { λ _. ⌜ ((d n : List ℕ) → let m = view (now (words .entry)) d n in view (now (words .exit)) d n ≡ withItems m (cleared (m .items) (containerSet e))) ⌝ }
 {
     let cells: &mut [u64] = words;

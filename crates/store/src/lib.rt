@@ -1,10 +1,11 @@
 // Where the maps of document 01 lie: three arrays, lent to each function. Nothing above this crate knows an offset.
-//   words        the set of live processes at 0, the items of each container from 1 on, the containers that feed each process from 65 on,
-//                those that it feeds from 81 on
+//   words        the set of live processes at 0, the items of each container from 1 on, the containers that each process maps for reading
+//                from 65 on and both ways from 81 on, the counts of these mappings from 97 on (document 02, Paper 4)
 //   descriptors  32 for each process
 //   names        128
 pub mod blocks;
 pub mod cells;
+pub mod counts;
 mod gifts;
 pub mod limits;
 pub mod lookups;

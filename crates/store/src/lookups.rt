@@ -1,16 +1,16 @@
 // Looking things up. Every number but a name's in `name` is taken as it is: past a table's end stands what the definitions say.
 use crate::limits::BLOCK;
+use crate::limits::BOTHS_AT;
 use crate::limits::CLOSED;
 use crate::limits::CONTAINERS;
+use crate::limits::COUNTS_AT;
 use crate::limits::DEVICES;
-use crate::limits::FED_AT;
-use crate::limits::FEEDERS_AT;
 use crate::limits::FIRST_FILE;
 use crate::limits::ITEMS_AT;
 use crate::limits::NAMES;
 use crate::limits::PROCESSES;
+use crate::limits::READS_AT;
 use crate::limits::TARGETS;
-use crate::limits::WORDS;
 use crate::numbers::Container;
 use crate::numbers::Descriptor;
 use crate::numbers::Name;
@@ -19,7 +19,7 @@ ghost use Prim.Native.Nat.{ℕ, _%_};
 ghost use mathlib.Core.Path.{_≡_};
 ghost use mathlib.Core.List.{List};
 ghost use lib.ListN.{getD, length};
-ghost use Rattle.sets.specs.Sets.{has, _∪_, unionOf};
+ghost use Rattle.sets.specs.Sets.{has, unionOf};
 ghost use Rattle.flow.specs.Lists.{isIn};
 ghost use Rattle.flow.specs.Box.{isTarget, slot, closed};
 ghost use Rattle.flow.specs.Links.{used, isFed};
@@ -79,40 +79,40 @@ pub fn is_bound(names: &[u8; 128], n: Name) -> bool
 }
 
 // The set of live processes.
-pub fn live(words: &[u64; 97]) -> u64
+pub fn live(words: &[u64; 353]) -> u64
     ensures { λ r. ⌜ r ≡ getD (now (words .entry)) 0 0 ⌝ }
 {
     words[0]
 }
 
-pub fn is_live(words: &[u64; 97], p: Process) -> bool
+pub fn is_live(words: &[u64; 353], p: Process) -> bool
     ensures { λ r. ⌜ r ≡ has (getD (now (words .entry)) 0 0) (p .0) ⌝ }
 {
     holds(words[0], p.0)
 }
 
-// The containers that feed process p.
-pub fn feeders(words: &[u64; 97], p: Process) -> u64
+// The containers that process p maps for reading.
+pub fn reads(words: &[u64; 353], p: Process) -> u64
     ensures { λ r. ⌜ r ≡ getD (part 65 16 (now (words .entry))) (p .0) 0 ⌝ }
 {
     if p.0 < PROCESSES {
-        return words[FEEDERS_AT + p.0 as usize];
+        return words[READS_AT + p.0 as usize];
     }
     0
 }
 
-// Those that it feeds.
-pub fn fed(words: &[u64; 97], p: Process) -> u64
+// Those that it maps both ways.
+pub fn boths(words: &[u64; 353], p: Process) -> u64
     ensures { λ r. ⌜ r ≡ getD (part 81 16 (now (words .entry))) (p .0) 0 ⌝ }
 {
     if p.0 < PROCESSES {
-        return words[FED_AT + p.0 as usize];
+        return words[BOTHS_AT + p.0 as usize];
     }
     0
 }
 
 // The items of container c.
-pub fn items(words: &[u64; 97], c: Container) -> u64
+pub fn items(words: &[u64; 353], c: Container) -> u64
     ensures { λ r. ⌜ r ≡ getD (part 1 64 (now (words .entry))) (c .0) 0 ⌝ }
 {
     if c.0 < CONTAINERS {
@@ -134,29 +134,29 @@ fn stands(table: &[u8], c: u8) -> bool
 
 // The containers that some process maps.
 fn mapped(words: &[u64]) -> u64
-    requires { ⌜ length (now words) ≡ 97 ⌝ }
-    ensures { λ r. ⌜ r ≡ unionOf (part 65 16 (now (words .entry))) ∪ unionOf (part 81 16 (now (words .entry))) ⌝ }
+    requires { ⌜ length (now words) ≡ 353 ⌝ }
+    ensures { λ r. ⌜ r ≡ unionOf (part 65 32 (now (words .entry))) ⌝ }
 {
-    sets::union_of(&words[FEEDERS_AT..FED_AT]) | sets::union_of(&words[FED_AT..WORDS])
+    sets::union_of(&words[READS_AT..COUNTS_AT])
 }
 
 // The containers that links lead into.
 fn fed_set(words: &[u64]) -> u64
-    requires { ⌜ length (now words) ≡ 97 ⌝ }
+    requires { ⌜ length (now words) ≡ 353 ⌝ }
     ensures { λ r. ⌜ r ≡ unionOf (part 81 16 (now (words .entry))) ⌝ }
 {
-    sets::union_of(&words[FED_AT..WORDS])
+    sets::union_of(&words[BOTHS_AT..COUNTS_AT])
 }
 
 // Whether a link leads into the file, pipe or device c.
-pub fn is_fed(words: &[u64; 97], c: Container) -> bool
+pub fn is_fed(words: &[u64; 353], c: Container) -> bool
     ensures { λ r. ⌜ ((d n : List ℕ) → r ≡ isFed (view (now (words .entry)) d n .tables) (c .0)) ⌝ }
 {
     holds(fed_set(words), c.0)
 }
 
 // Whether container c is in use.
-pub fn in_use(words: &[u64; 97], descriptors: &[u8; 512], names: &[u8; 128], c: Container) -> bool
+pub fn in_use(words: &[u64; 353], descriptors: &[u8; 512], names: &[u8; 128], c: Container) -> bool
     ensures { λ r. ⌜ r ≡ used (mapsBefore words descriptors names .tables) (c .0) ⌝ }
 {
     if c.0 < FIRST_FILE {

@@ -1,4 +1,4 @@
-// Numbers of processes, containers, descriptors and names, each a type of its own (document 01, The box). They are built after their range
+// Numbers of processes, containers, descriptors, names and sorts of mapping, each a type of its own (document 01, The box). They are built after their range
 // was tested.
 pub struct Process(pub u8);
 
@@ -7,3 +7,6 @@ pub struct Container(pub u8);
 pub struct Descriptor(pub u8);
 
 pub struct Name(pub u8);
+
+// 0 for reading, 1 both ways (document 02, Paper 4).
+pub struct Sort(pub u8);

@@ -16,7 +16,7 @@ ghost use Rattle.tracker.specs.Rows.{callIn, Passes};
 ghost use Rattle.tracker.specs.Worked.{done, worked, given, finished};
 
 // Makes what a call that is not refused gives.
-fn give(words: &mut [u64; 97], descriptors: &[u8; 512], names: &[u8; 128], q: Call)
+fn give(words: &mut [u64; 353], descriptors: &[u8; 512], names: &[u8; 128], q: Call)
     requires { ⌜ Passes (now words) (now descriptors) (now names) q ⌝ }
     ensures { λ _. ⌜ mapsAfter words descriptors names ≡ given (mapsBefore words descriptors names) q ⌝ }
 {
@@ -29,7 +29,7 @@ fn give(words: &mut [u64; 97], descriptors: &[u8; 512], names: &[u8; 128], q: Ca
 }
 
 // Makes the rest of a call that is not refused, once its gifts are made: what it empties, its tables, what it ends the use of.
-pub fn finish(words: &mut [u64; 97], descriptors: &mut [u8; 512], names: &mut [u8; 128], q: Call)
+pub fn finish(words: &mut [u64; 353], descriptors: &mut [u8; 512], names: &mut [u8; 128], q: Call)
     requires { ⌜ Passes (now words) (now descriptors) (now names) q ⌝ }
     ensures { λ _. ⌜ mapsAfter words descriptors names ≡ finished (mapsBefore words descriptors names) q ⌝ }
 {
@@ -42,7 +42,7 @@ pub fn finish(words: &mut [u64; 97], descriptors: &mut [u8; 512], names: &mut [u
 
 // The number of the refusal, or 0 once the call's change is made.
 pub fn work(
-    words: &mut [u64; 97],
+    words: &mut [u64; 353],
     descriptors: &mut [u8; 512],
     names: &mut [u8; 128],
     q: Call,

@@ -31,7 +31,7 @@ pub struct Call {
 // The maps by value. The rules are kept by the layer above. Its layout is C's, for callers that keep it in their own memory.
 #[repr(C)]
 pub struct Tracker {
-    words: [u64; 97],
+    words: [u64; 353],
     descriptors: [u8; 512],
     names: [u8; 128],
 }

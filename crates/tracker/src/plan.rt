@@ -44,7 +44,7 @@ pub fn giving(x: u64, r: u64) -> Plan
 }
 
 // The second is given what the first holds, then the first what the second then holds (map both; document 02, Paper 3).
-fn exchanging(words: &[u64; 97], first: Container, second: Container) -> Plan
+fn exchanging(words: &[u64; 353], first: Container, second: Container) -> Plan
     requires { ⌜ (first .0 < containerCount) × (second .0 < containerCount) ⌝ }
     ensures { λ r. ⌜ ((d n : List ℕ) → r ≡ planOf (view (now (words .entry)) d n) (exchange (first .0) (second .0))) ⌝ }
 {
@@ -59,7 +59,7 @@ fn exchanging(words: &[u64; 97], first: Container, second: Container) -> Plan
 }
 
 // The plan of a call that is not refused.
-pub fn plan_of(words: &[u64; 97], descriptors: &[u8; 512], names: &[u8; 128], q: Call) -> Plan
+pub fn plan_of(words: &[u64; 353], descriptors: &[u8; 512], names: &[u8; 128], q: Call) -> Plan
     requires { ⌜ Passes (now words) (now descriptors) (now names) q ⌝ }
     ensures { λ r. ⌜ r ≡ planAt (mapsBefore words descriptors names) q (kindOf (q .kind)) ⌝ }
 {

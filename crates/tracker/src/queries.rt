@@ -22,7 +22,7 @@ pub enum Reply {
 }
 
 // The items of container c.
-pub fn items_in(words: &[u64; 97], c: u8) -> Reply
+pub fn items_in(words: &[u64; 353], c: u8) -> Reply
     ensures { λ r. ⌜ ((d n : List ℕ) (rules : List Rule) → replyOf r ≡ itemsQuery (state (view (now (words .entry)) d n) rules) c) ⌝ }
 {
     if c < CONTAINERS {
@@ -43,7 +43,7 @@ fn with_holder(x: u64, held: u64, i: u8, c: u8) -> u64
 }
 
 // The containers that hold item i.
-fn holder_set(words: &[u64; 97], i: u8) -> u64
+fn holder_set(words: &[u64; 353], i: u8) -> u64
     ensures { λ r. ⌜ ((d n : List ℕ) (rules : List Rule) → r ≡ those (λ c. holds (state (view (now (words .entry)) d n) rules) c (i % 64))) ⌝ }
 {
     let mut x = 0;
@@ -70,7 +70,7 @@ fn fill(x: u64, out: &mut [u16])
 }
 
 // The containers that hold item i, in rising number, at the front of `out`, and how many they are. A refusal leaves `out` as it was.
-pub fn holders_in(words: &[u64; 97], i: u8, out: &mut [u16]) -> Reply
+pub fn holders_in(words: &[u64; 353], i: u8, out: &mut [u16]) -> Reply
     ensures { λ r. ⌜ ((d n : List ℕ) (rules : List Rule) → AnswersHolders (state (view (now (words .entry)) d n) rules) i (now (out .entry)) r (now (out .exit))) ⌝ }
 {
     if ITEMS <= i {

@@ -26,7 +26,7 @@ ghost use Rattle.tracker.specs.Rows.{Passes};
 ghost use Rattle.tracker.specs.Plans.{heldBy, lostSet, lostAt, freeAt, emptiedAt, unusedSet, goneOf};
 
 // The files and pipes that process p leads to or maps.
-fn held_by(words: &[u64; 97], descriptors: &[u8; 512], p: u8) -> u64
+fn held_by(words: &[u64; 353], descriptors: &[u8; 512], p: u8) -> u64
     ensures { λ r. ⌜ ((n : List ℕ) → r ≡ heldBy (view (now (words .entry)) (now (descriptors .entry)) n .tables) p) ⌝ }
 {
     block_files(descriptors, Process(p))
@@ -47,7 +47,7 @@ fn losing(entry: u8, held: u64) -> Lost
 }
 
 // What a call that is not refused may end the use of.
-pub fn lost_by(words: &[u64; 97], descriptors: &[u8; 512], names: &[u8; 128], q: Call) -> Lost
+pub fn lost_by(words: &[u64; 353], descriptors: &[u8; 512], names: &[u8; 128], q: Call) -> Lost
     requires { ⌜ Passes (now words) (now descriptors) (now names) q ⌝ }
     ensures { λ r. ⌜ lostSet r ≡ lostAt (mapsBefore words descriptors names .tables) q (kindOf (q .kind)) ⌝ }
 {
@@ -70,7 +70,7 @@ pub fn lost_by(words: &[u64; 97], descriptors: &[u8; 512], names: &[u8; 128], q:
 }
 
 // The container c, where no link leads into it; else closed.
-fn free(words: &[u64; 97], c: u8) -> u8
+fn free(words: &[u64; 353], c: u8) -> u8
     ensures { λ r. ⌜ ((d n : List ℕ) → r ≡ freeAt (view (now (words .entry)) d n .tables) c) ⌝ }
 {
     if is_fed(words, Container(c)) {
@@ -81,7 +81,7 @@ fn free(words: &[u64; 97], c: u8) -> u8
 
 // The container that a call that is not refused empties, whatever its use, or closed where there is none. A fork's child is emptied by its
 // plan, and an exit's process is among the lost.
-pub fn emptied_by(words: &[u64; 97], descriptors: &[u8; 512], names: &[u8; 128], q: Call) -> u8
+pub fn emptied_by(words: &[u64; 353], descriptors: &[u8; 512], names: &[u8; 128], q: Call) -> u8
     requires { ⌜ Passes (now words) (now descriptors) (now names) q ⌝ }
     ensures { λ r. ⌜ containerSet r ≡ emptiedAt (mapsBefore words descriptors names .tables) q (kindOf (q .kind)) ⌝ }
 {
@@ -99,7 +99,7 @@ pub fn emptied_by(words: &[u64; 97], descriptors: &[u8; 512], names: &[u8; 128],
 }
 
 // What an entry leads to, where that is a file or pipe that is not in use; else closed.
-fn unused(words: &[u64; 97], descriptors: &[u8; 512], names: &[u8; 128], e: u8) -> u8
+fn unused(words: &[u64; 353], descriptors: &[u8; 512], names: &[u8; 128], e: u8) -> u8
     ensures { λ r. ⌜ containerSet r ≡ goneOf (mapsBefore words descriptors names .tables) (fileSet e) ⌝ }
 {
     if !((FIRST_FILE <= e) & (e < CONTAINERS)) {
@@ -112,7 +112,7 @@ fn unused(words: &[u64; 97], descriptors: &[u8; 512], names: &[u8; 128], e: u8) 
 }
 
 // Empties container v, where it is not in use.
-fn release_one(words: &mut [u64; 97], descriptors: &[u8; 512], names: &[u8; 128], v: u8)
+fn release_one(words: &mut [u64; 353], descriptors: &[u8; 512], names: &[u8; 128], v: u8)
     ensures { λ _. ⌜ (let m = mapsBefore words descriptors names in mapsAfter words descriptors names ≡ withItems m (cleared (m .items) (unusedSet (m .tables) v))) ⌝ }
 {
     sets::lengths(words, names);
@@ -122,7 +122,7 @@ fn release_one(words: &mut [u64; 97], descriptors: &[u8; 512], names: &[u8; 128]
 }
 
 // Empties each container of the set held that is not in use.
-fn release_each(words: &mut [u64; 97], descriptors: &[u8; 512], names: &[u8; 128], held: u64)
+fn release_each(words: &mut [u64; 353], descriptors: &[u8; 512], names: &[u8; 128], held: u64)
     ensures { λ _. ⌜ (let m = mapsBefore words descriptors names in mapsAfter words descriptors names ≡ withItems m (cleared (m .items) (goneOf (m .tables) held))) ⌝ }
 {
     sets::lengths(words, names);
@@ -135,7 +135,7 @@ fn release_each(words: &mut [u64; 97], descriptors: &[u8; 512], names: &[u8; 128
 }
 
 // Empties each container that is among the lost and not in use.
-pub fn release(words: &mut [u64; 97], descriptors: &[u8; 512], names: &[u8; 128], lost: Lost)
+pub fn release(words: &mut [u64; 353], descriptors: &[u8; 512], names: &[u8; 128], lost: Lost)
     ensures { λ _. ⌜ (let m = mapsBefore words descriptors names in mapsAfter words descriptors names ≡ withItems m (cleared (m .items) (goneOf (m .tables) (lostSet lost)))) ⌝ }
 {
     let c = unused(words, descriptors, names, lost.entry);

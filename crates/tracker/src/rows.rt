@@ -66,7 +66,7 @@ fn fits(kind: u8, q: Call) -> bool
 }
 
 // The first of these tests that holds of a call of this kind, or 0.
-fn first(words: &[u64; 97], descriptors: &[u8; 512], names: &[u8; 128], kind: u8, q: Call) -> u8
+fn first(words: &[u64; 353], descriptors: &[u8; 512], names: &[u8; 128], kind: u8, q: Call) -> u8
     ensures { λ r. ⌜ refusalFrom r ≡ firstThat (callTests (mapsBefore words descriptors names .tables) (callAt q (kindOf kind))) ⌝ }
 {
     if !fits(kind, q) {
@@ -95,7 +95,7 @@ fn first(words: &[u64; 97], descriptors: &[u8; 512], names: &[u8; 128], kind: u8
 }
 
 // The same of any call. Each arm knows its kind, so that of every row the compiler keeps what that kind is asked.
-pub fn refusal(words: &[u64; 97], descriptors: &[u8; 512], names: &[u8; 128], q: Call) -> u8
+pub fn refusal(words: &[u64; 353], descriptors: &[u8; 512], names: &[u8; 128], q: Call) -> u8
     ensures { λ r. ⌜ refusalFrom r ≡ firstThat (callTests (mapsBefore words descriptors names .tables) (callIn q)) ⌝ }
 {
     let kind = q.kind;

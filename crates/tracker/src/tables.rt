@@ -27,7 +27,7 @@ ghost use Rattle.store.specs.Maps.{view, withTables, mapsBefore, mapsAfter};
 ghost use Rattle.tracker.specs.Rows.{tablesAt, Passes};
 
 // Makes process p live.
-fn start(words: &mut [u64; 97], p: u8)
+fn start(words: &mut [u64; 353], p: u8)
     requires { ⌜ p < 16 ⌝ }
     ensures { λ _. ⌜ ((d n : List ℕ) → let m = view (now (words .entry)) d n in view (now (words .exit)) d n ≡ withTables m (withLive (m .tables) (m .tables .live ∪ only p))) ⌝ }
 {
@@ -44,7 +44,7 @@ fn dup(descriptors: &mut [u8; 512], p: u8, a: u8, b: u8)
 }
 
 // A link from container c to process p.
-fn map_read(words: &mut [u64; 97], p: u8, c: u8)
+fn map_read(words: &mut [u64; 353], p: u8, c: u8)
     requires { ⌜ (p < 16) × (c < 64) ⌝ }
     ensures { λ _. ⌜ ((d n : List ℕ) → let m = view (now (words .entry)) d n in let t = m .tables in view (now (words .exit)) d n ≡ withTables m (withLinks t p (feedersOf t p ∪ only c) (feeds t p))) ⌝ }
 {
@@ -54,7 +54,7 @@ fn map_read(words: &mut [u64; 97], p: u8, c: u8)
 }
 
 // Links both ways.
-fn map_both(words: &mut [u64; 97], p: u8, c: u8)
+fn map_both(words: &mut [u64; 353], p: u8, c: u8)
     requires { ⌜ (p < 16) × (c < 64) ⌝ }
     ensures { λ _. ⌜ ((d n : List ℕ) → let m = view (now (words .entry)) d n in let t = m .tables in view (now (words .exit)) d n ≡ withTables m (withLinks t p (feedersOf t p ∪ only c) (feeds t p ∪ only c))) ⌝ }
 {
@@ -64,7 +64,7 @@ fn map_both(words: &mut [u64; 97], p: u8, c: u8)
 }
 
 // Ends the links between process p and container c.
-fn unmap(words: &mut [u64; 97], p: u8, c: u8)
+fn unmap(words: &mut [u64; 353], p: u8, c: u8)
     requires { ⌜ (p < 16) × (c < 64) ⌝ }
     ensures { λ _. ⌜ ((d n : List ℕ) → let m = view (now (words .entry)) d n in let t = m .tables in view (now (words .exit)) d n ≡ withTables m (withLinks t p (without (feedersOf t p) c) (without (feeds t p) c))) ⌝ }
 {
@@ -91,7 +91,7 @@ fn rename(names: &mut [u8; 128], a: u8, b: u8)
 }
 
 // The child is live, with the links and descriptors of process p.
-fn fork(words: &mut [u64; 97], descriptors: &mut [u8; 512], p: u8, child: u8)
+fn fork(words: &mut [u64; 353], descriptors: &mut [u8; 512], p: u8, child: u8)
     requires { ⌜ (p < 16) × (child < 16) ⌝ }
     ensures { λ _. ⌜ ((n : List ℕ) → let m = view (now (words .entry)) (now (descriptors .entry)) n in view (now (words .exit)) (now (descriptors .exit)) n ≡ withTables m (tablesBy (m .tables) p child 0 0 forking)) ⌝ }
 {
@@ -104,7 +104,7 @@ fn fork(words: &mut [u64; 97], descriptors: &mut [u8; 512], p: u8, child: u8)
 }
 
 // Process p is dead, its descriptors are closed and its links ended.
-fn exit(words: &mut [u64; 97], descriptors: &mut [u8; 512], p: u8)
+fn exit(words: &mut [u64; 353], descriptors: &mut [u8; 512], p: u8)
     requires { ⌜ p < 16 ⌝ }
     ensures { λ _. ⌜ ((n : List ℕ) → let m = view (now (words .entry)) (now (descriptors .entry)) n in view (now (words .exit)) (now (descriptors .exit)) n ≡ withTables m (tablesBy (m .tables) p 0 0 0 exiting)) ⌝ }
 {
@@ -116,7 +116,7 @@ fn exit(words: &mut [u64; 97], descriptors: &mut [u8; 512], p: u8)
 
 // Makes the tables those after a call that is not refused.
 pub fn change_tables(
-    words: &mut [u64; 97],
+    words: &mut [u64; 353],
     descriptors: &mut [u8; 512],
     names: &mut [u8; 128],
     q: Call,

@@ -28,7 +28,13 @@ fn unless(there: bool, number: u8) -> u8
 }
 
 // Which of these holds, or 0.
-pub fn holds(words: &[u64; 97], descriptors: &[u8; 512], names: &[u8; 128], kind: u8, q: Call) -> u8
+pub fn holds(
+    words: &[u64; 353],
+    descriptors: &[u8; 512],
+    names: &[u8; 128],
+    kind: u8,
+    q: Call,
+) -> u8
     ensures { λ r. ⌜ refusalFrom r ≡ missingAt (mapsBefore words descriptors names .tables) q (kindOf kind) ⌝ }
 {
     let p = q.process;

@@ -14,7 +14,7 @@ ghost use Rattle.store.specs.Maps.{mapsBefore};
 ghost use Rattle.tracker.specs.Rows.{takenAt};
 
 pub fn holds(
-    words: &[u64; 97],
+    words: &[u64; 353],
     descriptors: &[u8; 512],
     names: &[u8; 128],
     kind: u8,

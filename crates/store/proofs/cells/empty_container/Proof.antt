@@ -17,7 +17,7 @@ returns c =
     let w = t .before .before .args .words .now in
     λ d n. c .empty-one-part .ensures d n ∙ ap (λ (x : ℕ). withItems (view w d n) (cleared (view w d n .items) x)) (ap only (mod-eq-of-lt (t .if1 .taken)) ∙ sym (containerSet-low _ (t .if1 .taken)))
 
-long : (c : tie.Else1) → length (c .before .before .args .words .now) ≡ 97
+long : (c : tie.Else1) → length (c .before .before .args .words .now) ≡ 353
 long c = search needs
 
 pub empty-container-spec : {M : Type 1} → statement M

@@ -1,4 +1,5 @@
 -- `in_use` is the test of document 01, by the kinds of container.
+use Prim.Native.Nat.{_^_, _<_}
 use mathlib.Core.Path.{sym, ap, _∙_}
 use mathlib.Core.Bool.{Bool, _&&_, or-true}
 use lib.Dec.{ltb}
@@ -6,7 +7,7 @@ use borrow.Author.Tests.{lt-ltb}
 use Rattle.flow.specs.Box.{Tables, isDevice}
 use Rattle.store.specs.Maps.{view}
 use Rattle.flow.proofs.Use.{used-device, used-number, used-held}
-use Rattle.store.proofs.Use.{mapped-has, member-of}
+use Rattle.store.proofs.Use.{mapped-is, member-of}
 use Rattle.store.proofs.Parts.{part-length}
 use borrow.Author.Needs.{needs}
 use Rattle.store.proofs.lookups.in_use.Statement.{statement}
@@ -28,7 +29,7 @@ returns-5 c =
     ap (λ (a : Bool). a && ltb (q .c .0) 64) (b .member .ensures)
     ∙ member-of (c1 .mapped .result) (q .c .0) (search needs)
     ∙ rw (c1 .mapped .ensures)
-    (mapped-has t _ (part-length 81 16 _ (search needs)) (part-length 65 16 _ (search needs))
+    (mapped-is (q .words .now) (q .descriptors .now) (q .names .now) (search needs) (q .c .0) (let b : c1 .mapped .result < 2 ^ 64 = search needs in rw (c1 .mapped .ensures) at b)
     ∙ sym (used-held t _ (c9 .if1 .left) ∙ rw (← c7 .stands .ensures, c6 .if3 .left, ← c4 .stands2 .ensures, c3 .if4 .left)))
 
 pub in-use-spec : {M : Type 1} → statement M

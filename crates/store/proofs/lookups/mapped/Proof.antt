@@ -1,14 +1,12 @@
--- `mapped` joins both parts.
-use Rattle.sets.specs.Sets.{_∪_}
+-- `mapped` joins the sets of both sorts.
 use Rattle.store.specs.Maps.{part}
 use borrow.Author.Needs.{needs}
 use Rattle.store.proofs.lookups.mapped.Statement.{statement}
 use Rattle.store.proofs.lookups.mapped.Tie as tie
 
 pub mapped-spec : {M : Type 1} → statement M
-unfolding part _∪_
+unfolding part
 mapped-spec =
     tie.close
-    (tie.spec (λ c. search needs) (λ c. search needs) (λ c. search needs) (λ c κs. search needs) (λ c. search needs) (λ c. search needs) (λ c. search needs)
-    (λ c κs. search needs)
-    (λ c. rw (c .before .before .union-of .ensures, c .union-of2 .ensures)))
+    (tie.spec (λ c. search needs) (λ c. search needs) (λ c. search needs) (λ c κs. search needs)
+    (λ c. rw (c .union-of .ensures)))

@@ -1,11 +1,11 @@
--- `fed` reads a row.
+-- `boths` reads a set.
 use Rattle.store.proofs.Parts.{part-at, part-past}
 use borrow.Author.Needs.{needs}
-use Rattle.store.proofs.lookups.fed.Statement.{statement}
-use Rattle.store.proofs.lookups.fed.Tie as tie
+use Rattle.store.proofs.lookups.boths.Statement.{statement}
+use Rattle.store.proofs.lookups.boths.Tie as tie
 
-pub fed-spec : {M : Type 1} → statement M
-fed-spec =
+pub boths-spec : {M : Type 1} → statement M
+boths-spec =
     tie.close
     (tie.spec (λ c. search needs) (λ c. search needs) (λ c. search needs) (λ c. search needs)
     (λ c. part-at 81 16 _ _ (search needs))

@@ -1,11 +1,11 @@
--- `feeders` reads a row.
+-- `reads` reads a set.
 use Rattle.store.proofs.Parts.{part-at, part-past}
 use borrow.Author.Needs.{needs}
-use Rattle.store.proofs.lookups.feeders.Statement.{statement}
-use Rattle.store.proofs.lookups.feeders.Tie as tie
+use Rattle.store.proofs.lookups.reads.Statement.{statement}
+use Rattle.store.proofs.lookups.reads.Tie as tie
 
-pub feeders-spec : {M : Type 1} → statement M
-feeders-spec =
+pub reads-spec : {M : Type 1} → statement M
+reads-spec =
     tie.close
     (tie.spec (λ c. search needs) (λ c. search needs) (λ c. search needs) (λ c. search needs)
     (λ c. part-at 65 16 _ _ (search needs))
