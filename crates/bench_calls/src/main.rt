@@ -13,7 +13,7 @@ fn say(n: u8) {
 }
 
 fn run(calls: &[u8]) {
-    let mut words = [0u64; 97];
+    let mut words = [0u64; 353];
     let mut descriptors = [Tracker::CLOSED; 512];
     let mut names = [Tracker::CLOSED; 128];
     for i in 0..calls.len() / 5 {

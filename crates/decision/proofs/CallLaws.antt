@@ -15,6 +15,7 @@ use Rattle.store.specs.declared.Plan.{Plan}
 use Rattle.sets.specs.Sets.{_∪_}
 use Rattle.store.specs.Maps.{Maps, withItems, itemsIn, view as mapsOf, itemsBy}
 use Rattle.store.proofs.Parts.{part-length}
+use Rattle.store.proofs.Words.{sized-view}
 use Rattle.tracker.specs.declared.Call.{Call as Bytes}
 use Rattle.tracker.specs.Rows.{callIn, Passes}
 use Rattle.tracker.specs.Plans.{nothing, planAt, givesAt}
@@ -55,7 +56,7 @@ module _ (m : Monitor) (b : Bytes) where
   planned = planAt (maps m) b (kindOf (b .kind))
 
   -- a kind that does not give
-  pub gives-nothing : length (m .words) ≡ 97 → givesAt (kindOf (b .kind)) ≡ false → Gives m b 32 (m .words)
+  pub gives-nothing : length (m .words) ≡ 353 → givesAt (kindOf (b .kind)) ≡ false → Gives m b 32 (m .words)
   unfolding mapsOf _∪_
   gives-nothing long h =
       let e : planned ≡ nothing = quiet (maps m) b (kindOf (b .kind)) h in
@@ -106,7 +107,7 @@ known : (m : Monitor) (b : Bytes) → firstThat (callTests (maps m .tables) (cal
 unfolding callFrom
 known m b e = known-by m b (kindOf (b .kind)) e
 
-module _ (m : Monitor) (b : Bytes) (long : length (m .words) ≡ 97) (named : length (m .names) ≡ 128) (n : ℕ) (e : refusalFrom n ≡ firstThat (callTests (maps m .tables) (callIn b))) (z : n ≡ 0)
+module _ (m : Monitor) (b : Bytes) (long : length (m .words) ≡ 353) (named : length (m .names) ≡ 128) (n : ℕ) (e : refusalFrom n ≡ firstThat (callTests (maps m .tables) (callIn b))) (z : n ≡ 0)
     (k : ℕ) (w : List ℕ) (g : Gives m b k w) where
   untested : firstThat (callTests (maps m .tables) (callIn b)) ≡ none
   untested = number-none n _ e z
@@ -124,7 +125,7 @@ module _ (m : Monitor) (b : Bytes) (long : length (m .words) ≡ 97) (named : le
 
   sees : Foreseen (itemsIn (m .words)) (after (view m) (change (view m .tables) asked) .items) (planned m b)
   unfolding view after mapsOf
-  sees = foreseen (maps m) (part-length 1 64 (m .words) (omega arith)) (part-length 65 16 (m .words) (omega arith)) (part-length 81 16 (m .words) (omega arith)) named b asked asked-is untested
+  sees = foreseen (maps m) (part-length 1 64 (m .words) (omega arith)) (sized-view (m .words) _ _) named b asked asked-is untested
 
   same-rules : after (view m) (change (view m .tables) asked) .rules ≡ view m .rules
   unfolding after
@@ -139,7 +140,7 @@ module _ (m : Monitor) (b : Bytes) (long : length (m .words) ≡ 97) (named : le
   unfolding view after mapsBy mapsOf
   changed-view z x d names v =
       ap (λ (s : Maps). record { tables = s .tables; items = s .items; rules = view m .rules })
-      (v ∙ ap (λ (s : Maps). finished s b) (g .made z) ∙ finished-call (maps m) (part-length 1 64 (m .words) (omega arith)) (part-length 65 16 (m .words) (omega arith)) (part-length 81 16 (m .words) (omega arith)) named b untested ∙ ap (λ (o : Option Call). mapsBy (maps m) o none) asked-is)
+      (v ∙ ap (λ (s : Maps). finished s b) (g .made z) ∙ finished-call (maps m) (part-length 1 64 (m .words) (omega arith)) (sized-view (m .words) _ _) named b untested ∙ ap (λ (o : Option Call). mapsBy (maps m) o none) asked-is)
 
   pub allowed-call : k ≡ 32 → (x d names : List ℕ) → mapsOf x d names ≡ finished (mapsOf w (m .descriptors) (m .names)) b
       → Answers m (aCall (callIn b)) (record { answer = Allow; monitor = monitor x d names (m .sets) (m .fields) })

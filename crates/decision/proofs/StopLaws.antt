@@ -53,7 +53,7 @@ module _ (m : Monitor) (b : Bytes) (q : Call) (e : callIn b ≡ some q) (k : ℕ
     pub stop-not-used : not y ≡ true → AnswersStopped m q k (record { answer = Inhibit k; monitor = m })
     stop-not-used h = inhibited-as m q k (λ z. not-used m b q e k y use-is (not-true y h))
 
-    module _ (n : ℕ) (f : n ≡ actionAt (m .fields) k) (d : not (eqb n 1 && eqb (b .kind) 9) ≡ false) (h : not y ≡ false) (long : length (m .words) ≡ 97)
+    module _ (n : ℕ) (f : n ≡ actionAt (m .fields) k) (d : not (eqb n 1 && eqb (b .kind) 9) ≡ false) (h : not y ≡ false) (long : length (m .words) ≡ 353)
         (x : ℕ) (ix : x ≡ getD (itemsIn (m .words)) (8 + b .process) 0) (r : ℕ) (ir : r ≡ reach (maps m .tables) (c % 64)) (plan : Plan) (ip : plan ≡ giving x r) (j : ℕ) (js : Judged (itemsIn (m .words)) plan (m .sets) (m .fields) j) where
       small : c < 64
       unfolding substituteAt

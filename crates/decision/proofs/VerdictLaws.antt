@@ -158,7 +158,7 @@ module _ (m : Monitor) (b : Bytes) (q : Call) (e : callIn b ≡ some q) (k : ℕ
     diversion-broken n h = by-judging (some n) h
 
   -- the items after the write to the substitute are those of its plan
-  pub gift-items : length (m .words) ≡ 97 → after (view m) (diversion (view m) q rule) .items ≡ itemsBy (itemsIn (m .words)) (giving (getD (itemsIn (m .words)) (containerOf (b .process)) 0) (reach (maps m .tables) (rule .substitute)))
+  pub gift-items : length (m .words) ≡ 353 → after (view m) (diversion (view m) q rule) .items ≡ itemsBy (itemsIn (m .words)) (giving (getD (itemsIn (m .words)) (containerOf (b .process)) 0) (reach (maps m .tables) (rule .substitute)))
   unfolding after diversion view mapsOf
   gift-items long =
       ap (λ (p : ℕ). itemsAfter (maps m .tables) (maps m .items) (record { tables = maps m .tables; flow = gift (containerOf p) (rule .substitute) })) (call-fields b q e .1)

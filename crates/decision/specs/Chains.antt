@@ -29,7 +29,7 @@ pub record Numbers (n limit : ℕ) (l : List ℕ) : Type 0 where
 
 -- what the code's `Monitor` can hold: arrays of its lengths, of numbers of its widths
 pub record Holdable (m : Monitor) : Type 0 where
-  pub words : Numbers 97 (2 ^ 64) (m .words)
+  pub words : Numbers 353 (2 ^ 64) (m .words)
   pub descriptors : Numbers 512 256 (m .descriptors)
   pub names : Numbers 128 256 (m .names)
   pub sets : Numbers 32 (2 ^ 64) (m .sets)

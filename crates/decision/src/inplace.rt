@@ -62,7 +62,7 @@ pub fn renew(
 )
     ensures { λ _. ⌜ IsFresh (monitorAfter words descriptors names sets fields) ⌝ }
 {
-    *words = [0u64; 97];
+    *words = [0u64; 353];
     *descriptors = [Tracker::CLOSED; 512];
     *names = [Tracker::CLOSED; 128];
     *sets = [0u64; 32];

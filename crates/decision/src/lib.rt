@@ -52,7 +52,7 @@ impl Monitor {
         ensures { λ r. ⌜ IsFresh r ⌝ }
     {
         Monitor {
-            words: [0u64; 97],
+            words: [0u64; 353],
             descriptors: [Tracker::CLOSED; 512],
             names: [Tracker::CLOSED; 128],
             sets: [0u64; 32],

@@ -23,7 +23,7 @@ use Rattle.flow.proofs.Rows.{target-lt, target-not, Row, Rows, rows-set
 use Rattle.flow.proofs.Use.{used-process, used-open, feeder-row, fed-row, linked-used}
 use Rattle.flow.proofs.Moves.{Fit, source, source-copy, source-other}
 use Rattle.flow.proofs.After.{Linking}
-use Rattle.flow.proofs.Mapping.{row-other, rows-other, counts-of, wide-of, linking-raised, linking-lowered, in-raised, out-raised, in-lowered, out-lowered, in-none, out-none, child-in, child-out, relinked, link-kept}
+use Rattle.flow.proofs.Mapping.{raised-other, lowered-other, rows-other, counts-of, wide-of, linking-raised, linking-lowered, in-raised, out-raised, in-lowered, out-lowered, in-none, out-none, child-in, child-out, relinked, link-kept}
 
 -- what the tests say of a call that is not refused
 pub record Accepted (s : Tables) (q : Call) : Type 0 where
@@ -146,32 +146,23 @@ module _ (s : Tables) (k : Linking s) (p a b c : ℕ) where
   fit-truncate l true e = λ x y m. m
   fit-truncate l false e = (λ x y m. m, unfed l e)
 
-  -- after a raise or a lowering the rows of other processes are as before
-  raised-other : (x y : Sort) (d q : ℕ) → (q ≡ p → ⊥) → rowOf (raised s x p d) y q ≡ rowOf s y q
-  unfolding raised
-  raised-other x y d q n = row-other s x y p q _ n
-
-  lowered-other : (x y : Sort) (d q : ℕ) → (q ≡ p → ⊥) → rowOf (lowered s x p d) y q ≡ rowOf s y q
-  unfolding lowered
-  lowered-other x y d q n = row-other s x y p q _ n
-
   fit-map-read : p < 16 → (x y : ℕ) → linked (raised s toRead p to) x y ≡ true → (linked s x y ≡ true) ⊎ ((x ≡ to) × (y ≡ containerOf p))
   unfolding feeds rowOf withRow raised
   fit-map-read hp x y l =
-      link-kept s (raised s toRead p to) p (λ z. raised-other toRead z to) x y inl
+      link-kept s (raised s toRead p to) p (λ z. raised-other s toRead z p to) x y inl
       (λ e h. in-raised s k p hp toRead to x (λ g. inl (rw e (link-in s p hp x g))) (λ g. inr (g, e)) h)
       (λ e h. inl (rw e (link-out s p hp y h))) l
 
   fit-map-both : p < 16 → (x y : ℕ) → linked (raised s bothWays p to) x y ≡ true
       → (linked s x y ≡ true) ⊎ (((x ≡ to) × (y ≡ containerOf p)) ⊎ ((x ≡ containerOf p) × (y ≡ to)))
   fit-map-both hp x y l =
-      link-kept s (raised s bothWays p to) p (λ z. raised-other bothWays z to) x y inl
+      link-kept s (raised s bothWays p to) p (λ z. raised-other s bothWays z p to) x y inl
       (λ e h. in-raised s k p hp bothWays to x (λ g. inl (rw e (link-in s p hp x g))) (λ g. inr (inl (g, e))) h)
       (λ e h. out-raised s k p hp to y (λ g. inl (rw e (link-out s p hp y g))) (λ g. inr (inr (e, g))) h) l
 
   fit-unmap : p < 16 → (x y : ℕ) → linked (lowered s (sortOf b) p a) x y ≡ true → linked s x y ≡ true
   fit-unmap hp x y l =
-      link-kept s (lowered s (sortOf b) p a) p (λ z. lowered-other (sortOf b) z a) x y (λ e. e)
+      link-kept s (lowered s (sortOf b) p a) p (λ z. lowered-other s (sortOf b) z p a) x y (λ e. e)
       (λ e h. rw e (link-in s p hp x (in-lowered s k p hp (sortOf b) a x h)))
       (λ e h. rw e (link-out s p hp y (out-lowered s k p hp (sortOf b) a y h))) l
 

@@ -69,6 +69,14 @@ lowered-in row c d {P} f h =
     (λ e z. f (above-mapped row d (rw e (let m : 0 < getD row c 0 = omega arith in m)))) (λ z. f (above-mapped row d z))
     (mapped-above (set row c (getD row c 0 - 1)) d h)
 
+-- a member is one still once a count is raised, and once that of another is set
+pub raised-keeps : (row : List ℕ) (c n d : ℕ) → has (mappedIn row) d ≡ true → has (mappedIn (set row c (suc n))) d ≡ true
+raised-keeps row c n d h =
+    above-mapped (set row c (suc n)) d (set-at row c (suc n) d 0 (λ z. 0 < z) (λ e. omega arith) (mapped-above row d h))
+
+pub set-keeps : (row : List ℕ) (c n d : ℕ) → (d ≡ c → ⊥) → has (mappedIn row) d ≡ true → has (mappedIn (set row c n)) d ≡ true
+set-keeps row c n d e h = above-mapped (set row c n) d (set-at row c n d 0 (λ z. 0 < z) (λ q. absurd (e q)) (mapped-above row d h))
+
 -- ---- what every row keeps: process p is live where it maps something, and maps devices, files and pipes
 pub record Counts (live p : ℕ) (row : List ℕ) : Type 0 where
   pub size : length row ≤ 64

@@ -8,13 +8,14 @@ use mathlib.Core.List.{List, []}
 use lib.Dec.{ltb}
 use lib.ListN.{getD, length, set, length-set}
 use lib.Seq.{getD-set-same, getD-set-other}
+use borrow.Author.Tests.{lt-ltb}
 use Rattle.sets.specs.Sets.{has, _∪_}
 use Rattle.sets.proofs.Members.{union-has}
 use Rattle.flow.specs.Box.{containerOf, isTarget, Sort, toRead, bothWays, Tables, noMappings, rowOf, mappings, mappedIn, feedersOf, feeds}
 use Rattle.flow.specs.Links.{linked}
 use Rattle.flow.specs.Calls.{withRow, withRows, raised, lowered}
 use Rattle.flow.proofs.Bools.{or-elim, or-l, or-r, by, no-both}
-use Rattle.flow.proofs.Counts.{mapped-has, none-mapped, raised-in, lowered-in, Counts, counts-set, counts-lowered}
+use Rattle.flow.proofs.Counts.{mapped-has, none-mapped, raised-in, lowered-in, raised-keeps, set-keeps, Counts, counts-set, counts-lowered}
 use Rattle.flow.proofs.Rows.{Rows, rows-set}
 use Rattle.flow.proofs.Reach.{link-cases, link-in, link-out}
 use Rattle.flow.proofs.After.{Linking}
@@ -29,6 +30,12 @@ module _ (t : Tables) (p c : ℕ) where
   unfolding feedersOf mappings
   feeder-by-count = union-has _ _ c ∙ ap₂ _||_ (mapped-has (rowOf t toRead p) c) (mapped-has (rowOf t bothWays p) c)
 
+-- a count above 0, of either sort, is a link
+pub counted-mapped : (t : Tables) (x : Sort) (p c : ℕ) → (mappings t x p c ≡ 0 → ⊥) → (has (feedersOf t p) c || has (feeds t p) c) ≡ true
+counted-mapped t toRead p c h =
+    or-l _ (has (feeds t p) c) (feeder-by-count t p c ∙ or-l _ (ltb 0 (mappings t bothWays p c)) (lt-ltb 0 (mappings t toRead p c) (omega (arith, h))))
+counted-mapped t bothWays p c h = or-r (has (feedersOf t p) c) _ (fed-by-count t p c ∙ lt-ltb 0 (mappings t bothWays p c) (omega (arith, h)))
+
 -- ---- the rows once one is set
 pub row-other : (s : Tables) (x y : Sort) (p q : ℕ) (l : List ℕ) → (q ≡ p → ⊥) → rowOf (withRow s x p l) y q ≡ rowOf s y q
 unfolding rowOf withRow
@@ -37,9 +44,55 @@ row-other s toRead bothWays p q l d = refl
 row-other s bothWays toRead p q l d = refl
 row-other s bothWays bothWays p q l d = getD-set-other (s .boths) p q l [] d
 
+pub raised-other : (s : Tables) (x y : Sort) (p c q : ℕ) → (q ≡ p → ⊥) → rowOf (raised s x p c) y q ≡ rowOf s y q
+unfolding raised
+raised-other s x y p c q n = row-other s x y p q _ n
+
+pub lowered-other : (s : Tables) (x y : Sort) (p c q : ℕ) → (q ≡ p → ⊥) → rowOf (lowered s x p c) y q ≡ rowOf s y q
+unfolding lowered
+lowered-other s x y p c q n = row-other s x y p q _ n
+
 pub rows-other : (s : Tables) (y : Sort) (p q : ℕ) (l m : List ℕ) → (q ≡ p → ⊥) → rowOf (withRows s p l m) y q ≡ rowOf s y q
 unfolding withRows
 rows-other s y p q l m d = row-other (withRow s toRead p l) bothWays y p q m d ∙ row-other s toRead y p q l d
+
+-- a row for each process, of either sort
+pub record Sized (s : Tables) : Type 0 where
+  pub reads : length (s .reads) ≡ 16
+  pub boths : length (s .boths) ≡ 16
+
+pub sized-of : {s : Tables} → Linking s → Sized s
+sized-of k = record { reads = k .reads .size; boths = k .boths .size }
+
+module _ (s : Tables) (k : Sized s) (p : ℕ) (hp : p < 16) where
+  pub row-same : (x : Sort) (l : List ℕ) → rowOf (withRow s x p l) x p ≡ l
+  unfolding rowOf withRow
+  row-same toRead l = getD-set-same (s .reads) p l [] (omega (arith, k .reads))
+  row-same bothWays l = getD-set-same (s .boths) p l [] (omega (arith, k .boths))
+
+  pub rows-read : (l m : List ℕ) → rowOf (withRows s p l m) toRead p ≡ l
+  unfolding withRows rowOf withRow
+  rows-read l m = getD-set-same (s .reads) p l [] (omega (arith, k .reads))
+
+  pub rows-both : (l m : List ℕ) → rowOf (withRows s p l m) bothWays p ≡ m
+  unfolding withRows rowOf withRow
+  rows-both l m = getD-set-same (s .boths) p m [] (omega (arith, k .boths))
+
+  -- what the process maps it maps still once a count is raised, and but for c once that of c is set
+  row-kept : (x : Sort) (l : List ℕ) (d : ℕ) → (has (mappedIn (rowOf s x p)) d ≡ true → has (mappedIn l) d ≡ true) → (y : Sort) → has (mappedIn (rowOf s y p)) d ≡ true → has (mappedIn (rowOf (withRow s x p l) y p)) d ≡ true
+  unfolding rowOf withRow
+  row-kept toRead l d f toRead h = rw (getD-set-same (s .reads) p l [] (omega (arith, k .reads))) (f h)
+  row-kept toRead l d f bothWays h = h
+  row-kept bothWays l d f toRead h = h
+  row-kept bothWays l d f bothWays h = rw (getD-set-same (s .boths) p l [] (omega (arith, k .boths))) (f h)
+
+  pub raised-kept : (x y : Sort) (c d : ℕ) → has (mappedIn (rowOf s y p)) d ≡ true → has (mappedIn (rowOf (raised s x p c) y p)) d ≡ true
+  unfolding raised
+  raised-kept x y c d = row-kept x _ d (raised-keeps (rowOf s x p) c (mappings s x p c) d) y
+
+  pub lowered-kept : (x y : Sort) (c d : ℕ) → (d ≡ c → ⊥) → has (mappedIn (rowOf s y p)) d ≡ true → has (mappedIn (rowOf (lowered s x p c) y p)) d ≡ true
+  unfolding lowered
+  lowered-kept x y c d e = row-kept x _ d (set-keeps (rowOf s x p) c (mappings s x p c - 1) d e) y
 
 -- what every row keeps
 pub counts-of : (s : Tables) → Linking s → (p : ℕ) (x : Sort) → Counts (s .live) p (rowOf s x p)
@@ -48,19 +101,6 @@ counts-of s k p toRead = k .reads .row p
 counts-of s k p bothWays = k .boths .row p
 
 module _ (s : Tables) (k : Linking s) (p : ℕ) (hp : p < 16) where
-  pub row-same : (x : Sort) (l : List ℕ) → rowOf (withRow s x p l) x p ≡ l
-  unfolding rowOf withRow
-  row-same toRead l = getD-set-same (s .reads) p l [] (omega (arith, k .reads .size))
-  row-same bothWays l = getD-set-same (s .boths) p l [] (omega (arith, k .boths .size))
-
-  pub rows-read : (l m : List ℕ) → rowOf (withRows s p l m) toRead p ≡ l
-  unfolding withRows rowOf withRow
-  rows-read l m = getD-set-same (s .reads) p l [] (omega (arith, k .reads .size))
-
-  pub rows-both : (l m : List ℕ) → rowOf (withRows s p l m) bothWays p ≡ m
-  unfolding withRows rowOf withRow
-  rows-both l m = getD-set-same (s .boths) p m [] (omega (arith, k .boths .size))
-
   pub wide-of : (x : Sort) → length (rowOf s x p) ≡ 64
   unfolding rowOf
   wide-of toRead = k .reads .wide p hp
@@ -94,11 +134,11 @@ module _ (s : Tables) (k : Linking s) (p : ℕ) (hp : p < 16) where
 
   row-raised : (x : Sort) (c d : ℕ) {P : Type 0} → (has (mappedIn (rowOf s x p)) d ≡ true → P) → (d ≡ c → P) → has (mappedIn (rowOf (raised s x p c) x p)) d ≡ true → P
   unfolding raised
-  row-raised x c d f g h = raised-in (rowOf s x p) c _ d f g (rw (row-same x _) at h)
+  row-raised x c d f g h = raised-in (rowOf s x p) c _ d f g (rw (row-same s (sized-of k) p hp x _) at h)
 
   row-lowered : (x : Sort) (c d : ℕ) {P : Type 0} → (has (mappedIn (rowOf s x p)) d ≡ true → P) → has (mappedIn (rowOf (lowered s x p c) x p)) d ≡ true → P
   unfolding lowered mappings
-  row-lowered x c d f h = lowered-in (rowOf s x p) c d f (rw (row-same x _) at h)
+  row-lowered x c d f h = lowered-in (rowOf s x p) c d f (rw (row-same s (sized-of k) p hp x _) at h)
 
   pub in-raised : (x : Sort) (c u : ℕ) {P : Type 0} → (has (feedersOf s p) u ≡ true → P) → (u ≡ c → P) → has (feedersOf (raised s x p c) p) u ≡ true → P
   unfolding feeds rowOf withRow raised
@@ -120,11 +160,11 @@ module _ (s : Tables) (k : Linking s) (p : ℕ) (hp : p < 16) where
   out-lowered bothWays c v h = row-lowered bothWays c v (λ m. m) h
 
   pub in-none : (u : ℕ) {P : Type 0} → has (feedersOf (withRows s p noMappings noMappings) p) u ≡ true → P
-  in-none u = either (withRows s p noMappings noMappings) u (λ h. no-both (rw (rows-read _ _) at h) (none-mapped u)) (λ h. no-both (rw (rows-both _ _) at h) (none-mapped u))
+  in-none u = either (withRows s p noMappings noMappings) u (λ h. no-both (rw (rows-read s (sized-of k) p hp _ _) at h) (none-mapped u)) (λ h. no-both (rw (rows-both s (sized-of k) p hp _ _) at h) (none-mapped u))
 
   pub out-none : (v : ℕ) {P : Type 0} → has (feeds (withRows s p noMappings noMappings) p) v ≡ true → P
   unfolding feeds
-  out-none v h = no-both (rw (rows-both _ _) at h) (none-mapped v)
+  out-none v h = no-both (rw (rows-both s (sized-of k) p hp _ _) at h) (none-mapped v)
 
 -- the child of a fork has the sets of its parent
 module _ (s : Tables) (k : Linking s) (p a : ℕ) (hp : p < 16) (ha : a < 16) where
@@ -132,8 +172,8 @@ module _ (s : Tables) (k : Linking s) (p a : ℕ) (hp : p < 16) (ha : a < 16) wh
   child = withRows s a (rowOf s toRead p) (rowOf s bothWays p)
 
   pub child-row : (x : Sort) → rowOf child x a ≡ rowOf s x p
-  child-row toRead = rows-read s k a ha _ _
-  child-row bothWays = rows-both s k a ha _ _
+  child-row toRead = rows-read s (sized-of k) a ha _ _
+  child-row bothWays = rows-both s (sized-of k) a ha _ _
 
   pub child-in : feedersOf child a ≡ feedersOf s p
   unfolding feedersOf

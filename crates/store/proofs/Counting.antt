@@ -6,7 +6,7 @@ use mathlib.Core.Path.{_≡_, refl, sym, ap, _∙_}
 use mathlib.Core.Bool.{Bool, true, false, not}
 use mathlib.Core.List.{List, []}
 use lib.Dec.{ltb, eqb}
-use lib.ListN.{length, getD, set, length-set, List·getD-eq-default}
+use lib.ListN.{length, getD, set, length-set, replicate, length-replicate, getD-replicate, List·getD-eq-default}
 use lib.Seq.{getD-set-same, getD-set-other, ext-getD}
 use borrow.Author.Tests.{lt-ltb, ltb-false, ne-eqb}
 use Rattle.sets.specs.Sets.{has, only, without, _∪_}
@@ -136,6 +136,14 @@ module _ (sets counts : List ℕ) where
 
   pub rows-past : (p : ℕ) → 16 ≤ p → getD (rowsIn sets counts) p [] ≡ []
   rows-past p h = List·getD-eq-default (rowsIn sets counts) [] {n = p} (let e : length (rowsIn sets counts) ≡ 16 = rows-length in omega arith)
+
+-- where all sets are empty there are no mappings
+pub rows-none : (sets counts : List ℕ) → ((p : ℕ) → getD sets p 0 ≡ 0) → rowsIn sets counts ≡ replicate 16 noMappings
+rows-none sets counts f =
+    ext-getD [] (rowsIn sets counts) (replicate 16 noMappings) (rows-length sets counts ∙ sym (length-replicate {A = List ℕ} 16 noMappings))
+    (λ p b. let m : length (rowsIn sets counts) ≡ 16 = rows-length sets counts in
+    let h : p < 16 = omega arith in
+    rows-at sets counts p h ∙ ap (λ (x : ℕ). rowIn x counts p) (f p) ∙ row-none counts p ∙ sym (getD-replicate 16 p noMappings [] h))
 
 -- those of every process but p are as before
 pub rows-one : (sets counts sets′ counts′ : List ℕ) (p : ℕ) (l : List ℕ) → p < 16 → rowIn (getD sets′ p 0) counts′ p ≡ l

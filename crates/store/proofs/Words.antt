@@ -6,16 +6,18 @@ use mathlib.Core.Path.{_≡_, refl, sym, ap, ap₂, subst, _∙_}
 use mathlib.Core.Bool.{true}
 use mathlib.Core.List.{List, [], _++_}
 use lib.Dec.{eqb}
-use lib.ListN.{length, getD, set, take, drop, drop-of-length-le}
+use lib.ListN.{length, getD, set, replicate, take, drop, drop-of-length-le}
 use lib.Seq.{getD-take, length-take-le, drop-drop, drop-append-seam, take-append-seam}
 use borrow.Author.Tests.{ne-eqb}
 use borrow.Rule.Slice.PartMut.{putMid, postOf, take-put, drop-put}
 use Rattle.sets.specs.Sets.{has, only, _∪_}
 use Rattle.sets.proofs.Members.{none-has, has-lt}
-use Rattle.flow.specs.Box.{slot, Sort, toRead, bothWays, Tables, rowOf, mappedIn, feedersOf, feeds}
+use Rattle.flow.specs.Box.{slot, closed, noTables, Sort, toRead, bothWays, Tables, rowOf, mappedIn, feedersOf, feeds}
 use Rattle.flow.specs.Links.{reach, given}
 use Rattle.flow.specs.Calls.{sortOf, block}
 use Rattle.flow.proofs.Bools.{no-both, chosen-r}
+use Rattle.flow.proofs.Counts.{zeros}
+use Rattle.flow.proofs.Mapping.{Sized}
 use Rattle.flow.proofs.TableLaws.{table-length}
 use Rattle.store.specs.Maps.{part, view, rowsIn, withItems, cleared, itemsBy}
 use Rattle.store.specs.Search.{feedersIn}
@@ -23,7 +25,7 @@ use Rattle.store.specs.declared.Plan.{Plan}
 use Rattle.store.proofs.Parts.{part-at, part-past, part-length}
 use Rattle.store.proofs.Worklist.{cleared-one, cleared-none}
 use Rattle.store.proofs.Spreading.{reach-same}
-use Rattle.store.proofs.Counting.{row-lt, row-set, rows-past}
+use Rattle.store.proofs.Counting.{rows-length, row-lt, row-set, rows-past, rows-none}
 use Rattle.store.proofs.Writes.{setsOf, countsOf, row-viewed}
 
 pub row-bound : (w : List ℕ) → ((p : ℕ) → getD w p 0 < 2 ^ 64) → (a n q : ℕ) → getD (part a n w) q 0 < 2 ^ 64
@@ -32,6 +34,11 @@ row-bound w h a n q = go (decLt q n)
     go : Dec (q < n) → getD (part a n w) q 0 < 2 ^ 64
     go (yes k) = subst (λ (x : ℕ). x < 2 ^ 64) (part-at a n w q k) (h _)
     go (no k) = subst (λ (x : ℕ). x < 2 ^ 64) (part-past a n w q (omega arith)) (omega arith)
+
+-- a row for each process, of either sort
+pub sized-view : (w d n : List ℕ) → Sized (view w d n .tables)
+unfolding view
+sized-view w d n = record { reads = rows-length (part 65 16 w) (part 97 128 w); boths = rows-length (part 81 16 w) (part 225 128 w) }
 
 -- a sort that is not 0
 pub sort-both : (x : ℕ) → (x ≡ 0 → ⊥) → sortOf x ≡ bothWays
@@ -42,7 +49,7 @@ sort-both x h = chosen-r (eqb x 0) toRead bothWays (ne-eqb x 0 h)
 set-viewed : (x : ℕ) → x < 2 → (w d n : List ℕ) (p : ℕ) → p < 16 → getD (setsOf x w) p 0 < 2 ^ 64 → mappedIn (rowOf (view w d n .tables) (sortOf x) p) ≡ getD (setsOf x w) p 0
 set-viewed x hx w d n p hp b = ap mappedIn (row-viewed x hx w d n p hp) ∙ row-set _ (countsOf x w) p b
 
-rows-empty : (x : Sort) (w d n : List ℕ) (p : ℕ) → 16 ≤ p → mappedIn (rowOf (view w d n .tables) x p) ≡ 0
+pub rows-empty : (x : Sort) (w d n : List ℕ) (p : ℕ) → 16 ≤ p → mappedIn (rowOf (view w d n .tables) x p) ≡ 0
 unfolding rowOf view mappedIn
 rows-empty toRead w d n p h = ap mappedIn (rows-past (part 65 16 w) (part 97 128 w) p h)
 rows-empty bothWays w d n p h = ap mappedIn (rows-past (part 81 16 w) (part 225 128 w) p h)
@@ -163,3 +170,19 @@ none-cleared w d n long = ap (withItems (view w d n)) (cleared-none (part 1 64 w
 pub block-past : (l : List ℕ) (p : ℕ) → length l ≤ 32 * p → block l p ≡ []
 unfolding block
 block-past l p h = let k : length l ≤ slot p 0 = omega arith in ap (take 32) (drop-of-length-le l k)
+
+-- ---- all words 0, all entries closed
+pub fresh-view : view (replicate 353 0) (replicate 512 closed) (replicate 128 closed) ≡ record { tables = noTables; items = replicate 64 0 }
+unfolding view part noTables
+fresh-view =
+    λ k. record {
+      tables =
+          record {
+            live = 0;
+            reads = rows-none (replicate 16 0) (replicate 128 0) (zeros 16) k;
+            boths = rows-none (replicate 16 0) (replicate 128 0) (zeros 16) k;
+            descriptors = replicate 512 closed;
+            names = replicate 128 closed;
+          };
+      items = replicate 64 0;
+    }

@@ -21,7 +21,7 @@ ghost use mathlib.Core.List.{List};
 ghost use lib.ListN.{getD, length};
 ghost use Rattle.sets.specs.Sets.{has, unionOf};
 ghost use Rattle.flow.specs.Lists.{isIn};
-ghost use Rattle.flow.specs.Box.{isTarget, slot, closed};
+ghost use Rattle.flow.specs.Box.{isTarget, slot, closed, toRead, bothWays, rowOf, mappedIn};
 ghost use Rattle.flow.specs.Links.{used, isFed};
 ghost use Rattle.store.specs.Maps.{part, view, mapsBefore};
 
@@ -93,20 +93,22 @@ pub fn is_live(words: &[u64; 353], p: Process) -> bool
 
 // The containers that process p maps for reading.
 pub fn reads(words: &[u64; 353], p: Process) -> u64
-    ensures { λ r. ⌜ r ≡ getD (part 65 16 (now (words .entry))) (p .0) 0 ⌝ }
+    ensures { λ r. ⌜ ((d n : List ℕ) → r ≡ mappedIn (rowOf (view (now (words .entry)) d n .tables) toRead (p .0))) ⌝ }
 {
+    let cells: &[u64] = words;
     if p.0 < PROCESSES {
-        return words[READS_AT + p.0 as usize];
+        return cells[READS_AT + p.0 as usize];
     }
     0
 }
 
 // Those that it maps both ways.
 pub fn boths(words: &[u64; 353], p: Process) -> u64
-    ensures { λ r. ⌜ r ≡ getD (part 81 16 (now (words .entry))) (p .0) 0 ⌝ }
+    ensures { λ r. ⌜ ((d n : List ℕ) → r ≡ mappedIn (rowOf (view (now (words .entry)) d n .tables) bothWays (p .0))) ⌝ }
 {
+    let cells: &[u64] = words;
     if p.0 < PROCESSES {
-        return words[BOTHS_AT + p.0 as usize];
+        return cells[BOTHS_AT + p.0 as usize];
     }
     0
 }

@@ -12,15 +12,16 @@ use borrow.Author.Tests.{ltb-true, eqb-true, eqb-false, eq-eqb, ne-eqb, not-fals
 use Rattle.sets.specs.Sets.{has, only, without, _∪_, _∩_}
 use Rattle.sets.proofs.Members.{union-has, inter-has, only-has, none-has, without-has}
 use Rattle.flow.specs.Lists.{isIn}
-use Rattle.flow.specs.Box.{isDevice, isFile, containerOf, isTarget, closed, slot, descriptorCount, Tables, feedersOf, feeds, descriptor, name, isLive, isOpen, isBound}
+use Rattle.flow.specs.Box.{isDevice, isFile, containerOf, isTarget, closed, slot, descriptorCount, Sort, toRead, bothWays, Tables, noMappings, rowOf, mappedIn, feedersOf, feeds, descriptor, name, isLive, isOpen, isBound}
 use Rattle.flow.specs.Links.{mapped, used}
-use Rattle.flow.specs.Calls.{Kind, start, openName, create, pipe, device, dup, close, read, write, truncate, mapRead, mapBoth, unmap, unlink, rename, link, fork, exit, label, Call, isKind, kindNumber, withLive, withDescriptors, withNames, withLinks, putBlock, block, tablesBy}
+use Rattle.flow.specs.Calls.{Kind, start, openName, create, pipe, device, dup, close, read, write, truncate, mapRead, mapBoth, unmap, unlink, rename, link, fork, exit, label, Call, isKind, kindNumber, withLive, withDescriptors, withNames, withRow, withRows, raised, lowered, sortOf, putBlock, block, tablesBy}
 use Rattle.flow.specs.Refusals.{ranges, inRange, dead, taken, needOf, missing}
 use Rattle.flow.proofs.Bools.{or-elim, or-l, or-r, and-l, and-r, and-i, or-false-l, or-false-r, and-false-l, by, no-both}
 use Rattle.flow.proofs.TableLaws.{some-of, some-at, is-in, set-cases, untrue}
 use Rattle.flow.proofs.Reach.{process-range}
 use Rattle.flow.proofs.Rows.{target-lt, more-live, still-live}
 use Rattle.flow.proofs.Use.{used-target, used-open, used-mapped, used-process, used-kept}
+use Rattle.flow.proofs.Mapping.{Sized, raised-other, lowered-other, rows-other, raised-kept, lowered-kept, counted-mapped}
 use Rattle.flow.proofs.Accepted.{Accepted, fits-a, fits-b}
 use Rattle.store.specs.Maps.{files, fileSet, filesIn}
 use Rattle.tracker.specs.Plans.{heldBy, lostBy}
@@ -47,25 +48,33 @@ pub record Ends (s t : Tables) (lost : ℕ) : Type 0 where
   pub before : (v : ℕ) → v < 64 → has lost v ≡ true → used s v ≡ true
   pub kept : (v : ℕ) → v < 64 → has lost v ≡ false → used s v ≡ true → used t v ≡ true
 
-module _ (s : Tables) (lf : length (s .feeders) ≡ 16) (lg : length (s .fed) ≡ 16) (ln : length (s .names) ≡ 128) where
-  -- links as they were
-  same-mapped : (t : Tables) (c : ℕ) → t .feeders ≡ s .feeders → t .fed ≡ s .fed → mapped s c ≡ true → mapped t c ≡ true
-  unfolding mapped feedersOf feeds
-  same-mapped t c e f h = rw (e, f) h
+-- mappings as they were
+mapped-as : (s t : Tables) (c : ℕ) → t .reads ≡ s .reads → t .boths ≡ s .boths → mapped s c ≡ true → mapped t c ≡ true
+unfolding mapped feedersOf feeds rowOf
+mapped-as s t c e f h = rw (e, f) h
 
-  -- the links with those of process q set
-  pub mapped-set : (t : Tables) (q x y v : ℕ) → t .feeders ≡ set (s .feeders) q x → t .fed ≡ set (s .fed) q y → q < 16 → (has (feedersOf s q) v ≡ true → has x v ≡ true) → (has (feeds s q) v ≡ true → has y v ≡ true)
-      → mapped s v ≡ true → mapped t v ≡ true
+module _ (s : Tables) (sized : Sized s) (ln : length (s .names) ≡ 128) where
+  same-mapped : (t : Tables) (c : ℕ) → t .reads ≡ s .reads → t .boths ≡ s .boths → mapped s c ≡ true → mapped t c ≡ true
+  same-mapped = mapped-as s
+
+  -- the rows of process q changed: what it maps it maps still
+  mapped-kept : (t : Tables) (q v : ℕ) → ((y : Sort) (r : ℕ) → (r ≡ q → ⊥) → rowOf t y r ≡ rowOf s y r)
+      → ((y : Sort) → has (mappedIn (rowOf s y q)) v ≡ true → has (mappedIn (rowOf t y q)) v ≡ true) → mapped s v ≡ true → mapped t v ≡ true
   unfolding mapped feedersOf feeds
-  mapped-set t q x y v i j hq f g m =
-      let w = some-at 16 (λ r. has (getD (s .feeders) r 0) v || has (getD (s .fed) r 0) v) m in
-      rw (i, j) (some-of 16 (λ r. has (getD (set (s .feeders) q x) r 0) v || has (getD (set (s .fed) q y) r 0) v) (w .0) (w .1) (kept (w .0) (w .2) (ℕ-discrete (w .0) q)))
+  mapped-kept t q v apart f m =
+      let w = some-at 16 (λ r. has (feedersOf s r) v || has (feeds s r) v) m in
+      some-of 16 (λ r. has (feedersOf t r) v || has (feeds t r) v) (w .0) (w .1) (at (w .0) (w .2) (ℕ-discrete (w .0) q))
     where
-      kept : (r : ℕ) → (has (getD (s .feeders) r 0) v || has (getD (s .fed) r 0) v) ≡ true → Dec (r ≡ q) → (has (getD (set (s .feeders) q x) r 0) v || has (getD (set (s .fed) q y) r 0) v) ≡ true
-      kept r h (yes e) =
-          rw (e, getD-set-same (s .feeders) q x 0 (omega arith), getD-set-same (s .fed) q y 0 (omega arith))
-          (or-elim (has (getD (s .feeders) q 0) v) (has (getD (s .fed) q 0) v) (λ z. or-l (has x v) (has y v) (f z)) (λ z. or-r (has x v) (has y v) (g z)) (rw e at h))
-      kept r h (no e) = rw (getD-set-other (s .feeders) q r x 0 e, getD-set-other (s .fed) q r y 0 e) h
+      at : (r : ℕ) → (has (mappedIn (rowOf s toRead r) ∪ mappedIn (rowOf s bothWays r)) v || has (mappedIn (rowOf s bothWays r)) v) ≡ true → Dec (r ≡ q)
+          → (has (mappedIn (rowOf t toRead r) ∪ mappedIn (rowOf t bothWays r)) v || has (mappedIn (rowOf t bothWays r)) v) ≡ true
+      at r h (no e) = rw (apart toRead r e, apart bothWays r e) h
+      at r h (yes e) =
+          rw e
+          (or-elim (has (mappedIn (rowOf s toRead q) ∪ mappedIn (rowOf s bothWays q)) v) (has (mappedIn (rowOf s bothWays q)) v)
+          (λ z. or-l _ _ (or-elim (has (mappedIn (rowOf s toRead q)) v) (has (mappedIn (rowOf s bothWays q)) v)
+          (λ y. union-has _ (mappedIn (rowOf t bothWays q)) v ∙ or-l _ _ (f toRead y)) (λ y. union-has (mappedIn (rowOf t toRead q)) _ v ∙ or-r (has (mappedIn (rowOf t toRead q)) v) _ (f bothWays y))
+          (sym (union-has (mappedIn (rowOf s toRead q)) (mappedIn (rowOf s bothWays q)) v) ∙ z)))
+          (λ z. or-r (has (mappedIn (rowOf t toRead q) ∪ mappedIn (rowOf t bothWays q)) v) _ (f bothWays z)) (rw e at h))
 
   nothing : (t : Tables) → ((v : ℕ) → v < 64 → used s v ≡ true → used t v ≡ true) → Ends s t 0
   nothing t f = record { before = λ v hv h. no-both h (none-has v); kept = λ v hv h. f v hv }
@@ -102,24 +111,18 @@ module _ (s : Tables) (lf : length (s .feeders) ≡ 16) (lg : length (s .fed) �
           (λ q. set-cases (s .descriptors) i e j closed (λ w. w ≡ v → v ≡ e) (λ w. sym w) (λ w. absurd (not-file _ v g z w)) q) m
 
   -- ---- mappings
-  links-end : (p x y : ℕ) → p < 16 → ((v : ℕ) → has (feedersOf s p) v ≡ true → has x v ≡ true) → ((v : ℕ) → has (feeds s p) v ≡ true → has y v ≡ true) → Ends s (withLinks s p x y) 0
-  unfolding withLinks
-  links-end p x y hp f g = nothing _ (λ v hv. used-kept s _ v hv (λ q m. m) (λ q m. m) (λ q m. m) (λ q. mapped-set _ p x y v refl refl hp (f v) (g v)))
+  raised-ends : (x : Sort) (p c : ℕ) → p < 16 → Ends s (raised s x p c) 0
+  unfolding raised withRow
+  raised-ends x p c hp =
+      nothing _ (λ v hv. used-kept s _ v hv (λ q m. m) (λ q m. m) (λ q m. m) (λ q. mapped-kept (raised s x p c) p v (λ y. raised-other s x y p c) (λ y. raised-kept s sized p hp x y c v)))
 
-  more : (x d v : ℕ) → has x v ≡ true → has (x ∪ only d) v ≡ true
-  more x d v h = union-has x (only d) v ∙ or-l _ _ h
-
-  -- a member of a set is in it still less another
-  others : (x a v : ℕ) → v < 64 → (v ≡ a → ⊥) → has x v ≡ true → has (without x a) v ≡ true
-  others x a v l n h = without-has x a v l ∙ and-i (has x v) _ h (ap not (ne-eqb v a n))
-
-  unmap-ends : (p a : ℕ) → p < 16 → (has (feedersOf s p) a || has (feeds s p) a) ≡ true → Ends s (withLinks s p (without (feedersOf s p) a) (without (feeds s p) a)) (fileSet a)
-  unfolding withLinks
-  unmap-ends p a hp k =
+  unmap-ends : (x : Sort) (p a : ℕ) → p < 16 → (has (feedersOf s p) a || has (feeds s p) a) ≡ true → Ends s (lowered s x p a) (fileSet a)
+  unfolding lowered withRow
+  unmap-ends x p a hp k =
       record {
         before = λ v hv h. let w = one-file a v h in rw (w .1) (used-mapped s p a hp (rw (w .1) at (file-leads v (w .0))) k);
         kept = λ v hv h. used-kept s _ v hv (λ z m. m) (λ z m. m) (λ z m. m)
-            (λ z. let n : v ≡ a → ⊥ = λ q. other-file a v z h (sym q) in mapped-set _ p _ _ v refl refl hp (others (feedersOf s p) a v hv n) (others (feeds s p) a v hv n));
+            (λ z. mapped-kept (lowered s x p a) p v (λ y. lowered-other s x y p a) (λ y. lowered-kept s sized p hp x y a v (λ q. other-file a v z h (sym q))));
       }
 
   -- ---- a descriptor or a name less
@@ -173,38 +176,35 @@ module _ (s : Tables) (lf : length (s .feeders) ≡ 16) (lg : length (s .fed) �
   held-used : (q v : ℕ) → q < 16 → v < 64 → has (heldBy s q) v ≡ true → used s v ≡ true
   unfolding heldBy
   held-used q v hq hv h =
-      or-elim (has (filesIn (block (s .descriptors) q)) v) (has ((feedersOf s q ∪ feeds s q) ∩ files) v)
+      or-elim (has (filesIn (block (s .descriptors) q)) v) (has (feedersOf s q ∩ files) v)
       (λ e. let f : isFile v ≡ true = filesIn-file (block (s .descriptors) q) v e in
       used-target s v (file-leads v f) (λ m. or-l _ (mapped s v) (or-r (isIn v (s .names)) _ (block-in (s .descriptors) q v (sym (filesIn-has (block (s .descriptors) q) v f) ∙ e)))))
-      (λ e. let w : (has (feedersOf s q ∪ feeds s q) v && has files v) ≡ true = sym (inter-has (feedersOf s q ∪ feeds s q) files v) ∙ e in
-      used-mapped s q v hq (file-leads v (sym (files-has v hv) ∙ and-r (has (feedersOf s q ∪ feeds s q) v) _ w))
-      (sym (union-has (feedersOf s q) (feeds s q) v) ∙ and-l _ (has files v) w))
-      (sym (union-has (filesIn (block (s .descriptors) q)) ((feedersOf s q ∪ feeds s q) ∩ files) v) ∙ h)
+      (λ e. let w : (has (feedersOf s q) v && has files v) ≡ true = sym (inter-has (feedersOf s q) files v) ∙ e in
+      used-mapped s q v hq (file-leads v (sym (files-has v hv) ∙ and-r (has (feedersOf s q) v) _ w)) (or-l (has (feedersOf s q) v) (has (feeds s q) v) (and-l _ (has files v) w)))
+      (sym (union-has (filesIn (block (s .descriptors) q)) (feedersOf s q ∩ files) v) ∙ h)
 
   -- a file that q does not hold stands in none of its descriptors and in neither of its rows
   module _ (q v : ℕ) (hv : v < 64) (f : isFile v ≡ true) (h : has (heldBy s q) v ≡ false) where
-    no-part : (has (filesIn (block (s .descriptors) q)) v || has ((feedersOf s q ∪ feeds s q) ∩ files) v) ≡ false
+    no-part : (has (filesIn (block (s .descriptors) q)) v || has (feedersOf s q ∩ files) v) ≡ false
     unfolding heldBy
-    no-part = sym (union-has (filesIn (block (s .descriptors) q)) ((feedersOf s q ∪ feeds s q) ∩ files) v) ∙ h
+    no-part = sym (union-has (filesIn (block (s .descriptors) q)) (feedersOf s q ∩ files) v) ∙ h
 
     no-descriptor : isIn v (block (s .descriptors) q) ≡ false
-    no-descriptor = sym (filesIn-has (block (s .descriptors) q) v f) ∙ or-false-l _ (has ((feedersOf s q ∪ feeds s q) ∩ files) v) no-part
-
-    no-row : (has (feedersOf s q) v || has (feeds s q) v) ≡ false
-    no-row =
-        sym (union-has (feedersOf s q) (feeds s q) v)
-        ∙ and-false-l (has (feedersOf s q ∪ feeds s q) v) (has files v) (files-has v hv ∙ f)
-        (sym (inter-has (feedersOf s q ∪ feeds s q) files v) ∙ or-false-r (has (filesIn (block (s .descriptors) q)) v) _ no-part)
+    no-descriptor = sym (filesIn-has (block (s .descriptors) q) v f) ∙ or-false-l _ (has (feedersOf s q ∩ files) v) no-part
 
     no-feeder : has (feedersOf s q) v ≡ false
-    no-feeder = or-false-l _ (has (feeds s q) v) no-row
+    no-feeder =
+        and-false-l (has (feedersOf s q) v) (has files v) (files-has v hv ∙ f)
+        (sym (inter-has (feedersOf s q) files v) ∙ or-false-r (has (filesIn (block (s .descriptors) q)) v) _ no-part)
 
-    no-fed : has (feeds s q) v ≡ false
-    no-fed = or-false-r (has (feedersOf s q) v) _ no-row
+    no-mapping : (y : Sort) {P : Type 0} → has (mappedIn (rowOf s y q)) v ≡ true → P
+    unfolding feedersOf
+    no-mapping toRead e = no-both (union-has _ (mappedIn (rowOf s bothWays q)) v ∙ or-l _ _ e) no-feeder
+    no-mapping bothWays e = no-both (union-has (mappedIn (rowOf s toRead q)) _ v ∙ or-r (has (mappedIn (rowOf s toRead q)) v) _ e) no-feeder
 
   exit-ends : (p : ℕ) → p < 16 → has (s .live) p ≡ true
-      → Ends s (withDescriptors (withLive (withLinks s p 0 0) (without (s .live) p)) (putBlock (s .descriptors) p (replicate descriptorCount closed))) (heldBy s p ∪ only (containerOf p))
-  unfolding withLinks withLive withDescriptors
+      → Ends s (withDescriptors (withLive (withRows s p noMappings noMappings) (without (s .live) p)) (putBlock (s .descriptors) p (replicate descriptorCount closed))) (heldBy s p ∪ only (containerOf p))
+  unfolding withRows withRow withLive withDescriptors
   exit-ends p hp k =
       record {
         before = λ v hv h. or-elim (has (heldBy s p) v) (has (only (containerOf p)) v) (held-used p v hp hv) (λ e. rw (← (eqb-true (containerOf p) v (sym (only-has (containerOf p) v) ∙ e))) (used-process s p hp ∙ k)) (sym (union-has (heldBy s p) (only (containerOf p)) v) ∙ h);
@@ -215,12 +215,12 @@ module _ (s : Tables) (lf : length (s .feeders) ≡ 16) (lg : length (s .fed) �
             (λ z. let r = process-range v z in let r₀ : 8 ≤ v = r .0 in let r₁ : v < 24 = r .1 in still-live (s .live) p (v - 8) (omega arith) (λ q. eqb-false (containerOf p) v g₁ (omega arith)))
             (λ z m. m)
             (λ z. put-kept (s .descriptors) p (replicate descriptorCount closed) v (no-descriptor p v hv z g₀))
-            (λ z. mapped-set _ p 0 0 v refl refl hp (λ e. no-both e (no-feeder p v hv z g₀)) (λ e. no-both e (no-fed p v hv z g₀)));
+            (λ z m. mapped-as (withRows s p noMappings noMappings) _ v refl refl (mapped-kept (withRows s p noMappings noMappings) p v (λ y r. rows-other s y p r _ _) (λ y. no-mapping p v hv z g₀ y) m));
       }
 
   fork-ends : (p a : ℕ) → a < 16
-      → Ends s (withDescriptors (withLive (withLinks s a (feedersOf s p) (feeds s p)) (s .live ∪ only a)) (putBlock (s .descriptors) a (block (s .descriptors) p))) (heldBy s a)
-  unfolding withLinks withLive withDescriptors
+      → Ends s (withDescriptors (withLive (withRows s a (rowOf s toRead p) (rowOf s bothWays p)) (s .live ∪ only a)) (putBlock (s .descriptors) a (block (s .descriptors) p))) (heldBy s a)
+  unfolding withRows withRow withLive withDescriptors
   fork-ends p a ha =
       record {
         before = λ v hv. held-used a v ha hv;
@@ -228,7 +228,7 @@ module _ (s : Tables) (lf : length (s .feeders) ≡ 16) (lg : length (s .fed) �
             (λ z. more-live (s .live) a (v - 8))
             (λ z m. m)
             (λ z. put-kept (s .descriptors) a (block (s .descriptors) p) v (no-descriptor a v hv z h))
-            (λ z. mapped-set _ a (feedersOf s p) (feeds s p) v refl refl ha (λ e. no-both e (no-feeder a v hv z h)) (λ e. no-both e (no-fed a v hv z h)));
+            (λ z m. let t = withRows s a (rowOf s toRead p) (rowOf s bothWays p) in mapped-as t _ v refl refl (mapped-kept t a v (λ y r. rows-other s y a r _ _) (λ y. no-mapping a v hv z h y) m));
       }
 
   -- ---- by kind
@@ -252,9 +252,9 @@ module _ (s : Tables) (lf : length (s .feeders) ≡ 16) (lg : length (s .fed) �
     ends read h = nothing s (λ v hv u. u)
     ends write h = nothing s (λ v hv u. u)
     ends truncate h = nothing s (λ v hv u. u)
-    ends mapRead h = links-end p _ _ hp (more (feedersOf s p) (descriptor s p a)) (λ v m. m)
-    ends mapBoth h = links-end p _ _ hp (more (feedersOf s p) (descriptor s p a)) (more (feeds s p) (descriptor s p a))
-    ends unmap h = unmap-ends p a hp (not-false (has (feedersOf s p) a || has (feeds s p) a) (untrue _ 16 (h .there)))
+    ends mapRead h = raised-ends toRead p _ hp
+    ends mapBoth h = raised-ends bothWays p _ hp
+    ends unmap h = unmap-ends (sortOf b) p a hp (counted-mapped s (sortOf b) p a (eqb-false _ 0 (untrue _ 16 (h .there))))
     ends unlink h = unlink-ends a
     ends rename h = rename-ends a b (ltb-true b 128 (fits-b (ranges rename) (call rename) (h .fits)))
     ends link h = name-ends b (name s a) (h .free)

@@ -5,18 +5,18 @@ use native.Mathlib.Nat.{mod-eq-of-lt}
 use native.Mathlib.Decide.{ℕ-discrete}
 use mathlib.Core.Path.{_≡_, refl, sym, ap, _∙_}
 use mathlib.Core.Logic.{_⊎_, inl, inr, ⊎-elim}
-use mathlib.Core.Bool.{true}
+use mathlib.Core.Bool.{true, false}
 use mathlib.Core.List.{List, [], _∷_}
 use mathlib.Core.Option.{Option, none, some}
 use lib.Dec.{leb}
 use lib.ListN.{getD}
-use borrow.Author.Tests.{ltb-true, eqb-true, not-false}
+use borrow.Author.Tests.{ltb-true, leb-false, eqb-true, eqb-false, not-false}
 use Rattle.flow.specs.Lists.{firstThat}
-use Rattle.flow.specs.Box.{closed, slot, containerOf, isFile, descriptor, isOpen}
-use Rattle.flow.specs.Calls.{Kind, kindNumber}
+use Rattle.flow.specs.Box.{closed, slot, containerOf, isFile, Sort, toRead, bothWays, rowOf, mappings, descriptor, isOpen}
+use Rattle.flow.specs.Calls.{Kind, mapRead, mapBoth, unmap, kindNumber, isKind, sortOf}
 use Rattle.flow.specs.Records.{kinds, kindOf, callBy, callFrom}
-use Rattle.flow.specs.Refusals.{Range, aProcess, aName, aContainer, aFile, anItem, unused, ranges, fieldsFit, inRange, openDescriptor, needOf, missing, callTests}
-use Rattle.flow.proofs.Bools.{and-r}
+use Rattle.flow.specs.Refusals.{Range, aProcess, aName, aContainer, aFile, anItem, aSort, unused, ranges, fieldsFit, inRange, openDescriptor, needOf, missing, full, callTests}
+use Rattle.flow.proofs.Bools.{and-r, or-false-l}
 use Rattle.flow.proofs.KindLaws.{kind-at}
 use Rattle.flow.proofs.TableLaws.{untrue}
 use Rattle.flow.proofs.Rows.{target-lt}
@@ -52,6 +52,12 @@ module _ (q : Call) where
   fit-process k h =
       let f = fits-process (ranges k) (asked q k) h in
       ⊎-elim (λ e. ltb-true _ _ (rw e at f)) (λ e. let z : q .process ≡ 0 = eqb-true _ _ (rw e at f) in omega arith) (process-range k)
+
+-- counts go by the words alone
+same-count : (w d n : List ℕ) (x : Sort) (p c : ℕ) → mappings (view w d n .tables) x p c ≡ mappings (view w [] [] .tables) x p c
+unfolding view mappings rowOf
+same-count w d n toRead p c = refl
+same-count w d n bothWays p c = refl
 
 -- ---- a call that is not refused
 module _ {words descriptors names : List ℕ} {q : Call} (h : Passes words descriptors names q) where
@@ -100,6 +106,28 @@ module _ {words descriptors names : List ℕ} {q : Call} (h : Passes words descr
     unfolding inRange isFile
     file-c r = ltb-true (q .c) 64 (and-r (leb 24 (q .c)) _ (rw r at (fits-c (ranges k) (asked q k) (at-kind k e .fits))))
 
+    pub sort-b : ranges k .b ≡ aSort → q .b < 2
+    unfolding inRange
+    sort-b r = ltb-true _ _ (rw r at (fits-b (ranges k) (asked q k) (at-kind k e .fits)))
+
     pub leads-to : needOf k ≡ openDescriptor → getD descriptors (slot (q .process) (q .a)) closed < 64
     unfolding missing isOpen descriptor view
     leads-to n = target-lt _ (not-false _ (untrue _ 14 (rw n at (at-kind k e .there))))
+
+  -- the mappings that a call changes: one that rises is below 255, one that falls above 0
+  abbrev count : Sort → ℕ → ℕ
+  count x c = mappings (view words [] [] .tables) x (q .process) c
+
+  pub room-read : q .kind ≡ 11 → count toRead (getD descriptors (slot (q .process) (q .a)) closed) < 255
+  unfolding full isKind kindNumber descriptor view mappings rowOf
+  room-read e = let l : count toRead (getD descriptors (slot (q .process) (q .a)) closed) < 255 = leb-false 255 _ (or-false-l _ false (at-kind mapRead e .room)) in l
+
+  pub room-both : q .kind ≡ 12 → count bothWays (getD descriptors (slot (q .process) (q .a)) closed) < 255
+  unfolding full isKind kindNumber descriptor view mappings rowOf
+  room-both e = let l : count bothWays (getD descriptors (slot (q .process) (q .a)) closed) < 255 = leb-false 255 _ (at-kind mapBoth e .room) in l
+
+  pub some-mapping : q .kind ≡ 13 → 0 < count (sortOf (q .b)) (q .a)
+  unfolding missing needOf kindNumber view mappings
+  some-mapping e =
+      let n : count (sortOf (q .b)) (q .a) ≡ 0 → ⊥ = λ z. eqb-false _ 0 (untrue _ 16 (at-kind unmap e .there)) (same-count words descriptors names (sortOf (q .b)) (q .process) (q .a) ∙ z) in
+      omega (arith, n)

@@ -16,7 +16,7 @@ use Rattle.flow.specs.Lists.{firstThat, refusalFrom}
 use Rattle.flow.specs.Box.{containerOf, Tables, descriptor}
 use Rattle.flow.specs.Links.{reach, given, givenFrom, isFed, used}
 use Rattle.flow.specs.MapBoth.{inSequence}
-use Rattle.flow.specs.Calls.{Kind, start, openName, create, pipe, device, dup, close, read, write, truncate, mapRead, mapBoth, unmap, unlink, rename, link, fork, exit, label, Call as Asked, Flow, still, gift, arrival, exchange, copy, clear, Change, withLive, withLinks, withDescriptors, tablesBy, flowBy, change, moved, ended, itemsAfter}
+use Rattle.flow.specs.Calls.{Kind, start, openName, create, pipe, device, dup, close, read, write, truncate, mapRead, mapBoth, unmap, unlink, rename, link, fork, exit, label, Call as Asked, Flow, still, gift, arrival, exchange, copy, clear, Change, withLive, withRow, withRows, withDescriptors, tablesBy, flowBy, change, moved, ended, itemsAfter}
 use Rattle.flow.specs.Records.{kindOf, callBy, callFrom}
 use Rattle.flow.specs.Refusals.{ranges, inRange, callTests}
 use Rattle.flow.proofs.Bools.{or-elim, or-r, by, no-both, choice, chosen-l, chosen-r}
@@ -24,6 +24,7 @@ use Rattle.flow.proofs.TableLaws.{table-at, table-length, is-table}
 use Rattle.flow.proofs.Moves.{given-at}
 use Rattle.flow.proofs.Rows.{now-live}
 use Rattle.flow.proofs.Use.{used-process}
+use Rattle.flow.proofs.Mapping.{Sized}
 use Rattle.flow.proofs.Accepted.{Accepted, accepted, fits-a}
 use Rattle.store.specs.declared.Plan.{Plan}
 use Rattle.store.specs.Maps.{Maps, withItems, view, cleared, itemsBy}
@@ -201,7 +202,7 @@ dropped l x u g = is-table 64 _ _ (table-length 64 _) (λ v h. table-at 64 _ v 0
         (by (has x v) (λ e. rw e refl) (λ e. ap (unless (has x v)) (sym (chosen-r (eqb u v) 0 (getD l v 0) (ne-eqb u v (λ d. no-both (ap (has x) (sym d) ∙ g) e))))))
 
 -- ---- a call that is not refused
-module _ (m : Maps) (long : length (m .items) ≡ 64) (lf : length (m .tables .feeders) ≡ 16) (lg : length (m .tables .fed) ≡ 16) (ln : length (m .tables .names) ≡ 128) (q : Call) where
+module _ (m : Maps) (long : length (m .items) ≡ 64) (sized : Sized (m .tables)) (ln : length (m .tables .names) ≡ 128) (q : Call) where
   abbrev tablesOf : Kind → Tables
   tablesOf k = tablesBy (m .tables) (q .process) (q .a) (q .b) (q .c) k
 
@@ -216,7 +217,7 @@ module _ (m : Maps) (long : length (m .items) ≡ 64) (lf : length (m .tables .f
 
   -- the process that exits is gone
   exit-gone : q .process < 16 → has (gone exit) (containerOf (q .process)) ≡ true
-  unfolding goneOf lostBy tablesBy withLive withLinks withDescriptors
+  unfolding goneOf lostBy tablesBy withLive withRows withRow withDescriptors
   exit-gone l =
       let own = containerOf (q .process) in
       let dead : used (tablesOf exit) own ≡ false = used-process (tablesOf exit) (q .process) l ∙ without-has (m .tables .live) (q .process) (q .process) (omega arith) ∙ rw (eq-eqb (q .process) (q .process) refl) (and-comm (has (m .tables .live) (q .process)) false) in
@@ -253,7 +254,7 @@ module _ (m : Maps) (long : length (m .items) ≡ 64) (lf : length (m .tables .f
       let p : q .process < 16 = fit-process q k (h .fits) in
       drops k p (itemsBy (m .items) (planned k))
       ∙ ap (λ (l : List ℕ). cleared l (gone k)) (ap (λ (x : Plan). cleared (itemsBy (m .items) x) (emptiedOf m long (flowBy (m .tables) (q .process) (q .a) (q .b) (q .c) k))) (plan-is m (q .process) (q .a) (q .b) (q .c) k) ∙ moved-made m long (flowBy (m .tables) (q .process) (q .a) (q .b) (q .c) k))
-      ∙ sym (lost-ended m (change (m .tables) (asked q k)) _ (ends (m .tables) lf lg ln (q .process) (q .a) (q .b) (q .c) p k h))
+      ∙ sym (lost-ended m (change (m .tables) (asked q k)) _ (ends (m .tables) sized ln (q .process) (q .a) (q .b) (q .c) p k h))
 
   finished-by : (o : Option Kind) → firstThat (callTests (m .tables) (callBy o (q .process) (q .a) (q .b) (q .c))) ≡ none
       → record { tables = tablesAt (m .tables) q o; items = cleared (cleared (itemsBy (m .items) (planAt m q o)) (emptiedAt (m .tables) q o)) (goneOf (tablesAt (m .tables) q o) (lostAt (m .tables) q o)) } ≡ mapsBy m (callBy o (q .process) (q .a) (q .b) (q .c)) none
@@ -272,7 +273,7 @@ module _ (m : Maps) (long : length (m .items) ≡ 64) (lf : length (m .tables .f
   nobody v h = no-both h (union-has 0 0 v ∙ ap (λ (b : Bool). b || b) (none-has v))
 
   fork-stays : q .a < 16 → (v : ℕ) → v < 64 → has (only (containerOf (q .a)) ∪ 0) v ≡ true → has (goneOf (tablesOf fork) (heldBy (m .tables) (q .a))) v ≡ false
-  unfolding goneOf tablesBy withLive withLinks withDescriptors
+  unfolding goneOf tablesBy withLive withRows withRow withDescriptors
   fork-stays l v h r =
       let e : eqb (containerOf (q .a)) v ≡ true = sym (only-has (containerOf (q .a)) v) ∙ or-elim (has (only (containerOf (q .a))) v) (has 0 v) (λ z. z) (λ z. no-both z (none-has v)) (sym (union-has (only (containerOf (q .a))) 0 v) ∙ r) in
       let u : used (tablesOf fork) v ≡ true = rw (← (eqb-true (containerOf (q .a)) v e)) (used-process (tablesOf fork) (q .a) l ∙ now-live (m .tables .live) (q .a)) in

@@ -10,15 +10,15 @@ use Rattle.flow.specs.Calls.{Kind}
 use Rattle.flow.specs.Records.{kindOf, callBy, callFrom}
 use Rattle.flow.specs.Refusals.{callTests}
 use Rattle.tracker.specs.declared.Call.{Call}
-use Rattle.tracker.specs.Rows.{callAt, callIn, known, fitsAt, deadAt, takenAt, missingAt, sameAt, noFileAt}
+use Rattle.tracker.specs.Rows.{callAt, callIn, known, fitsAt, deadAt, takenAt, missingAt, sameAt, noFileAt, fullAt}
 
 module _ (t : Tables) (q : Call) where
   -- the tests behind that of the fields
   abbrev behind : Option Kind → List Test
-  behind o = (deadAt t q o ⇒ 6) ∷ (takenAt t q o ⇒ 7) ∷ missingAt t q o ∷ (sameAt q o ⇒ 9) ∷ (noFileAt t q o ⇒ 10) ∷ []
+  behind o = (deadAt t q o ⇒ 6) ∷ (takenAt t q o ⇒ 7) ∷ missingAt t q o ∷ (sameAt q o ⇒ 9) ∷ (noFileAt t q o ⇒ 10) ∷ (fullAt t q o ⇒ 17) ∷ []
 
   fit-first : (o : Option Kind) → fitsAt q o ≡ true → firstThat (behind o) ≡ firstThat (callTests t (callAt q o))
-  unfolding fitsAt deadAt takenAt missingAt sameAt noFileAt callBy callTests firstThat _⇒_
+  unfolding fitsAt deadAt takenAt missingAt sameAt noFileAt fullAt callBy callTests firstThat _⇒_
   fit-first none h = absurd (false≢true h)
   fit-first (some k) h = rw h refl
 
@@ -50,9 +50,13 @@ module _ (t : Tables) (q : Call) where
             unfolding firstThat _⇒_ refusalFrom
             ten-first x y = rw (lives, free, there, x, y) at (fit-first o fit)
 
-            pub none-first : sameAt q o ≡ false → noFileAt t q o ≡ false → refusalFrom 0 ≡ firstThat (callTests t (callAt q o))
+            pub seventeen-first : sameAt q o ≡ false → noFileAt t q o ≡ false → fullAt t q o ≡ true → refusalFrom 17 ≡ firstThat (callTests t (callAt q o))
             unfolding firstThat _⇒_ refusalFrom
-            none-first x y = rw (lives, free, there, x, y) at (fit-first o fit)
+            seventeen-first x y z = rw (lives, free, there, x, y, z) at (fit-first o fit)
+
+            pub none-first : sameAt q o ≡ false → noFileAt t q o ≡ false → fullAt t q o ≡ false → refusalFrom 0 ≡ firstThat (callTests t (callAt q o))
+            unfolding firstThat _⇒_ refusalFrom
+            none-first x y z = rw (lives, free, there, x, y, z) at (fit-first o fit)
 
   pub five-first : (o : Option Kind) → known o ≡ true → fitsAt q o ≡ false → refusalFrom 5 ≡ firstThat (callTests t (callAt q o))
   unfolding known fitsAt callBy callTests firstThat _⇒_ refusalFrom

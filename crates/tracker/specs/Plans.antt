@@ -4,7 +4,7 @@ use mathlib.Core.Bool.{Bool, true, false, not, _&&_}
 use mathlib.Core.Option.{Option, none, some}
 use lib.ListN.{getD}
 use Rattle.sets.specs.Sets.{has, only, those, _∪_, _∩_}
-use Rattle.flow.specs.Box.{closed, containerOf, Tables, feedersOf, feeds, descriptor, name}
+use Rattle.flow.specs.Box.{closed, containerOf, Tables, feedersOf, descriptor, name}
 use Rattle.flow.specs.Links.{reach, givenFrom, isFed, used}
 use Rattle.flow.specs.Calls.{Kind, start, openName, create, pipe, device, dup, close, read, write, truncate, mapRead, mapBoth, unmap, unlink, rename, link, fork, exit, label, Flow, still, gift, arrival, exchange, copy, clear, block, flowBy}
 use Rattle.store.specs.declared.Plan.{Plan}
@@ -121,7 +121,7 @@ emptiedAt t q (some k) = emptiedBy t (q .process) (q .a) (q .b) (q .c) k
 -- ---- uses that may end
 -- the files and pipes that process q leads to or maps
 unfoldable pub heldBy : Tables → ℕ → ℕ
-heldBy t q = filesIn (block (t .descriptors) q) ∪ ((feedersOf t q ∪ feeds t q) ∩ files)
+heldBy t q = filesIn (block (t .descriptors) q) ∪ (feedersOf t q ∩ files)
 
 -- the containers that a call may end the use of
 unfoldable pub lostBy : Tables → ℕ → ℕ → ℕ → ℕ → Kind → ℕ

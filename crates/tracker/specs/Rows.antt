@@ -8,7 +8,7 @@ use Rattle.flow.specs.Lists.{Test, firstThat}
 use Rattle.flow.specs.Box.{Tables, isLive}
 use Rattle.flow.specs.Calls.{Kind, Call as Asked, tablesBy}
 use Rattle.flow.specs.Records.{callBy, callFrom}
-use Rattle.flow.specs.Refusals.{ranges, fieldsFit, dead, taken, needOf, missing, sameDescriptors, noFile, callTests}
+use Rattle.flow.specs.Refusals.{ranges, fieldsFit, dead, taken, needOf, missing, sameDescriptors, noFile, full, callTests}
 use Rattle.store.specs.Maps.{view}
 use Rattle.tracker.specs.declared.Call.{Call}
 
@@ -43,7 +43,7 @@ takenAt t q (some k) = taken t (q .process) (q .a) (q .b) (q .c) k
 
 unfoldable pub missingAt : Tables → Call → Option Kind → Test
 missingAt t q none = none
-missingAt t q (some k) = missing t (q .process) (q .a) (needOf k)
+missingAt t q (some k) = missing t (q .process) (q .a) (q .b) (needOf k)
 
 -- the number of what is missing as the code answers it: 0 where it is there
 unfoldable pub numberUnless : Bool → ℕ → ℕ
@@ -57,6 +57,10 @@ sameAt q (some k) = sameDescriptors (asked q k)
 unfoldable pub noFileAt : Tables → Call → Option Kind → Bool
 noFileAt t q none = false
 noFileAt t q (some k) = noFile t (asked q k)
+
+unfoldable pub fullAt : Tables → Call → Option Kind → Bool
+fullAt t q none = false
+fullAt t q (some k) = full t (asked q k)
 
 unfoldable pub tablesAt : Tables → Call → Option Kind → Tables
 tablesAt t q none = t

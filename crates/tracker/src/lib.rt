@@ -64,7 +64,7 @@ impl Tracker {
         ensures { λ r. ⌜ state (view r) [] ≡ fresh ⌝ }
     {
         Tracker {
-            words: [0u64; 97],
+            words: [0u64; 353],
             descriptors: [Tracker::CLOSED; 512],
             names: [Tracker::CLOSED; 128],
         }

@@ -1,6 +1,7 @@
-// The table of refusals (document 01, What a record gets; document 02, Paper 2): the tests 4 to 10 of a call, with 14 to 16 in 8's place,
-// each place by a row of its own.
+// The table of refusals (document 01, What a record gets; document 02, Papers 2 and 4): the tests 4 to 10 of a call, with 14 to 16 in 8's
+// place, and 17, each place by a row of its own.
 mod dead;
+mod full;
 mod missing;
 mod no_file;
 mod same;
@@ -14,6 +15,7 @@ use store::limits::FIRST_FILE;
 use store::limits::ITEMS;
 use store::limits::NAMES;
 use store::limits::PROCESSES;
+use store::limits::SORTS;
 ghost use mathlib.Core.Path.{_≡_};
 ghost use Rattle.flow.specs.Lists.{firstThat, refusalFrom};
 ghost use Rattle.flow.specs.Records.{kindOf};
@@ -56,7 +58,7 @@ fn fits(kind: u8, q: Call) -> bool
         5 => (p < PROCESSES) & (a < DESCRIPTORS) & (b < DEVICES) & (c == 0),
         6 => (p < PROCESSES) & (a < DESCRIPTORS) & (b < DESCRIPTORS) & (c == 0),
         7 | 8 | 9 | 10 | 11 | 12 => (p < PROCESSES) & (a < DESCRIPTORS) & (b == 0) & (c == 0),
-        13 => (p < PROCESSES) & (a < CONTAINERS) & (b == 0) & (c == 0),
+        13 => (p < PROCESSES) & (a < CONTAINERS) & (b < SORTS) & (c == 0),
         14 => (p < PROCESSES) & (a < NAMES) & (b == 0) & (c == 0),
         15 | 16 => (p < PROCESSES) & (a < NAMES) & (b < NAMES) & (c == 0),
         17 => (p < PROCESSES) & (a < PROCESSES) & (b == 0) & (c == 0),
@@ -90,6 +92,9 @@ fn first(words: &[u64; 353], descriptors: &[u8; 512], names: &[u8; 128], kind: u
     }
     if no_file::holds(words, descriptors, names, kind, q) {
         return 10;
+    }
+    if full::holds(words, descriptors, names, kind, q) {
+        return 17;
     }
     0
 }

@@ -1,27 +1,32 @@
-// The tables after a call (document 01, The records): live processes, links, descriptors and names.
+// The tables after a call (document 01, The records; document 02, Paper 4): live processes, mappings, descriptors and names.
 use crate::Call;
 use store::blocks::close_block;
 use store::blocks::copy_block;
 use store::cells::set_descriptor;
-use store::cells::set_links;
 use store::cells::set_live;
 use store::cells::set_name;
+use store::counts::clear_row;
+use store::counts::copy_row;
+use store::counts::lower;
+use store::counts::raise;
+use store::limits::BOTH_WAYS;
 use store::limits::CLOSED;
+use store::limits::TO_READ;
 use store::lookups::descriptor;
-use store::lookups::fed;
-use store::lookups::feeders;
 use store::lookups::live;
 use store::lookups::name;
+use store::numbers::Container;
 use store::numbers::Descriptor;
 use store::numbers::Name;
 use store::numbers::Process;
+use store::numbers::Sort;
 ghost use Prim.Native.Nat.{ℕ, _<_, _%_};
 ghost use mathlib.Core.Path.{_≡_};
 ghost use mathlib.Core.List.{List};
 ghost use lib.ListN.{getD, set};
-ghost use Rattle.sets.specs.Sets.{only, without, _∪_};
-ghost use Rattle.flow.specs.Box.{closed, slot, feedersOf, feeds};
-ghost use Rattle.flow.specs.Calls.{fork as forking, exit as exiting, withLive, withLinks, tablesBy};
+ghost use Rattle.sets.specs.Sets.{only, _∪_};
+ghost use Rattle.flow.specs.Box.{closed, slot};
+ghost use Rattle.flow.specs.Calls.{fork as forking, exit as exiting, withLive, tablesBy};
 ghost use Rattle.flow.specs.Records.{kindOf};
 ghost use Rattle.store.specs.Maps.{view, withTables, mapsBefore, mapsAfter};
 ghost use Rattle.tracker.specs.Rows.{tablesAt, Passes};
@@ -43,36 +48,6 @@ fn dup(descriptors: &mut [u8; 512], p: u8, a: u8, b: u8)
     set_descriptor(descriptors, Process(p), Descriptor(b), to);
 }
 
-// A link from container c to process p.
-fn map_read(words: &mut [u64; 353], p: u8, c: u8)
-    requires { ⌜ (p < 16) × (c < 64) ⌝ }
-    ensures { λ _. ⌜ ((d n : List ℕ) → let m = view (now (words .entry)) d n in let t = m .tables in view (now (words .exit)) d n ≡ withTables m (withLinks t p (feedersOf t p ∪ only c) (feeds t p))) ⌝ }
-{
-    let x = feeders(words, Process(p));
-    let y = fed(words, Process(p));
-    set_links(words, Process(p), sets::with(x, c), y);
-}
-
-// Links both ways.
-fn map_both(words: &mut [u64; 353], p: u8, c: u8)
-    requires { ⌜ (p < 16) × (c < 64) ⌝ }
-    ensures { λ _. ⌜ ((d n : List ℕ) → let m = view (now (words .entry)) d n in let t = m .tables in view (now (words .exit)) d n ≡ withTables m (withLinks t p (feedersOf t p ∪ only c) (feeds t p ∪ only c))) ⌝ }
-{
-    let x = feeders(words, Process(p));
-    let y = fed(words, Process(p));
-    set_links(words, Process(p), sets::with(x, c), sets::with(y, c));
-}
-
-// Ends the links between process p and container c.
-fn unmap(words: &mut [u64; 353], p: u8, c: u8)
-    requires { ⌜ (p < 16) × (c < 64) ⌝ }
-    ensures { λ _. ⌜ ((d n : List ℕ) → let m = view (now (words .entry)) d n in let t = m .tables in view (now (words .exit)) d n ≡ withTables m (withLinks t p (without (feedersOf t p) c) (without (feeds t p) c))) ⌝ }
-{
-    let x = feeders(words, Process(p));
-    let y = fed(words, Process(p));
-    set_links(words, Process(p), sets::without(x, c), sets::without(y, c));
-}
-
 // Name b leads where a does.
 fn link(names: &mut [u8; 128], a: u8, b: u8)
     ensures { λ _. ⌜ now (names .exit) ≡ set (now (names .entry)) (b % 128) (getD (now (names .entry)) (a % 128) closed) ⌝ }
@@ -90,26 +65,26 @@ fn rename(names: &mut [u8; 128], a: u8, b: u8)
     set_name(names, Name(b), to);
 }
 
-// The child is live, with the links and descriptors of process p.
+// The child is live, with the mappings and descriptors of process p.
 fn fork(words: &mut [u64; 353], descriptors: &mut [u8; 512], p: u8, child: u8)
     requires { ⌜ (p < 16) × (child < 16) ⌝ }
     ensures { λ _. ⌜ ((n : List ℕ) → let m = view (now (words .entry)) (now (descriptors .entry)) n in view (now (words .exit)) (now (descriptors .exit)) n ≡ withTables m (tablesBy (m .tables) p child 0 0 forking)) ⌝ }
 {
-    let x = feeders(words, Process(p));
-    let y = fed(words, Process(p));
     let z = live(words);
-    set_links(words, Process(child), x, y);
+    copy_row(words, Sort(TO_READ), Process(p), Process(child));
+    copy_row(words, Sort(BOTH_WAYS), Process(p), Process(child));
     set_live(words, sets::with(z, child));
     copy_block(descriptors, Process(p), Process(child));
 }
 
-// Process p is dead, its descriptors are closed and its links ended.
+// Process p is dead, its descriptors are closed and its mappings ended.
 fn exit(words: &mut [u64; 353], descriptors: &mut [u8; 512], p: u8)
     requires { ⌜ p < 16 ⌝ }
     ensures { λ _. ⌜ ((n : List ℕ) → let m = view (now (words .entry)) (now (descriptors .entry)) n in view (now (words .exit)) (now (descriptors .exit)) n ≡ withTables m (tablesBy (m .tables) p 0 0 0 exiting)) ⌝ }
 {
     let z = live(words);
-    set_links(words, Process(p), 0, 0);
+    clear_row(words, Sort(TO_READ), Process(p));
+    clear_row(words, Sort(BOTH_WAYS), Process(p));
     set_live(words, sets::without(z, p));
     close_block(descriptors, Process(p));
 }
@@ -143,9 +118,15 @@ pub fn change_tables(
         5 => set_descriptor(descriptors, Process(p), Descriptor(a), b),
         6 => dup(descriptors, p, a, b),
         7 => set_descriptor(descriptors, Process(p), Descriptor(a), CLOSED),
-        11 => map_read(words, p, descriptor(descriptors, Process(p), Descriptor(a))),
-        12 => map_both(words, p, descriptor(descriptors, Process(p), Descriptor(a))),
-        13 => unmap(words, p, a),
+        11 => {
+            let to = descriptor(descriptors, Process(p), Descriptor(a));
+            raise(words, Sort(TO_READ), Process(p), Container(to));
+        }
+        12 => {
+            let to = descriptor(descriptors, Process(p), Descriptor(a));
+            raise(words, Sort(BOTH_WAYS), Process(p), Container(to));
+        }
+        13 => lower(words, Sort(b), Process(p), Container(a)),
         14 => set_name(names, Name(a), CLOSED),
         15 => rename(names, a, b),
         16 => link(names, a, b),

@@ -1,9 +1,7 @@
-// What the call needs is not there (document 02, Paper 2): 14 descriptor closed, 15 name unbound, 16 no link to unmap, 8 container to label
-// not in use.
+// What the call needs is not there (document 02, Papers 2 and 4): 14 descriptor closed, 15 name unbound, 16 no mapping of the named sort to
+// unmap, 8 container to label not in use.
 use crate::Call;
-use store::lookups;
-use store::lookups::fed;
-use store::lookups::feeders;
+use store::counts::maps;
 use store::lookups::in_use;
 use store::lookups::is_bound;
 use store::lookups::is_open;
@@ -11,6 +9,7 @@ use store::numbers::Container;
 use store::numbers::Descriptor;
 use store::numbers::Name;
 use store::numbers::Process;
+use store::numbers::Sort;
 ghost use mathlib.Core.Path.{_≡_};
 ghost use Rattle.flow.specs.Lists.{refusalFrom};
 ghost use Rattle.flow.specs.Records.{kindOf};
@@ -39,14 +38,11 @@ pub fn holds(
 {
     let p = q.process;
     let a = q.a;
+    let b = q.b;
     match kind {
         2 | 14 | 15 | 16 => unless(is_bound(names, Name(a)), 15),
         6 | 7 | 8 | 9 | 10 | 11 | 12 => unless(is_open(descriptors, Process(p), Descriptor(a)), 14),
-        13 => unless(
-            lookups::holds(feeders(words, Process(p)), a)
-                | lookups::holds(fed(words, Process(p)), a),
-            16,
-        ),
+        13 => unless(maps(words, Sort(b), Process(p), Container(a)), 16),
         19 => unless(in_use(words, descriptors, names, Container(a)), 8),
         _ => 0,
     }

@@ -9,7 +9,7 @@ use borrow.Author.Needs.{needs}
 use Rattle.decision.proofs.inplace.call_in.Statement.{statement}
 use Rattle.decision.proofs.inplace.call_in.Tie as tie
 
-long : (c : tie.After-lengths) → length (c .before .before .before .before .before .args .words .now) ≡ 97
+long : (c : tie.After-lengths) → length (c .before .before .before .before .before .args .words .now) ≡ 353
 long c = search needs
 
 named : (c : tie.After-lengths) → length (c .before .before .before .before .before .args .names .now) ≡ 128

@@ -11,14 +11,14 @@ use borrow.Author.Needs.{needs}
 use Rattle.tracker.proofs.calls.give.Statement.{statement}
 use Rattle.tracker.proofs.calls.give.Tie as tie
 
-long : (c : tie.After-lengths) → length (c .before .before .before .before .args .words .now) ≡ 97
+long : (c : tie.After-lengths) → length (c .before .before .before .before .args .words .now) ≡ 353
 long c = search needs
 
 returns : tie.Need-returns
 unfolding view
 returns c =
     let c2 = c .before .before in
-    let l : length (c2 .before .before .before .before .args .words .now) ≡ 97 = long c2 in
+    let l : length (c2 .before .before .before .before .args .words .now) ≡ 353 = long c2 in
     quiet-given _ (part-length 1 64 (c2 .before .before .before .before .args .words .now) (omega arith)) _ (sym (c .before .gives .ensures) ∙ not-true _ (c .if1 .taken))
 
 pub give-spec : {M : Type 1} → statement M

@@ -4,6 +4,7 @@ use mathlib.Core.Path.{_≡_, ap, _∙_}
 use lib.ListN.{length}
 use Rattle.store.specs.Maps.{Maps, view}
 use Rattle.store.proofs.Parts.{part-length}
+use Rattle.store.proofs.Words.{sized-view}
 use Rattle.tracker.specs.Rows.{Passes}
 use Rattle.tracker.specs.Worked.{finished}
 use Rattle.tracker.proofs.Joined.{refused, passes, still-passes, finished-call, worked-out}
@@ -11,7 +12,7 @@ use borrow.Author.Needs.{needs}
 use Rattle.tracker.proofs.calls.work.Statement.{statement}
 use Rattle.tracker.proofs.calls.work.Tie as tie
 
-long : (c : tie.After-lengths) → length (c .before .before .before .before .before .args .words .now) ≡ 97
+long : (c : tie.After-lengths) → length (c .before .before .before .before .before .args .words .now) ≡ 353
 long c = search needs
 
 named : (c : tie.After-lengths) → length (c .before .before .before .before .before .args .names .now) ≡ 128
@@ -29,10 +30,10 @@ returns-2 c =
     let c13 = c8 .before .before .before .before .before in
     let a = c13 .before .before .before .before .before .args in
     let w = a .words .now in
-    let l : length w ≡ 97 = long c13 in
+    let l : length w ≡ 353 = long c13 in
     let h = passing c8 .none-holds in
     worked-out _ _ _ h (c .finish .ensures ∙ ap (λ (m : Maps). finished m (a .q)) (c4 .give .ensures)
-    ∙ finished-call (view w (a .descriptors .now) (a .names .now)) (part-length 1 64 w (omega arith)) (part-length 65 16 w (omega arith)) (part-length 81 16 w (omega arith)) (named c13) (a .q) h)
+    ∙ finished-call (view w (a .descriptors .now) (a .names .now)) (part-length 1 64 w (omega arith)) (sized-view w _ _) (named c13) (a .q) h)
 
 pub work-spec : {M : Type 1} → statement M
 work-spec =

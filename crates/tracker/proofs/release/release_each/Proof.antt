@@ -17,14 +17,14 @@ Inv-loop words₀ descriptors names held left₀ words left = Releasing (view wo
 abbrev μ-loop : tie.MeasureT-loop
 μ-loop words₀ descriptors names held left₀ words left = count left
 
-long : (c : tie.After-lengths Inv-loop μ-loop) → length (c .before .before .before .before .args .words .now) ≡ 97
+long : (c : tie.After-lengths Inv-loop μ-loop) → length (c .before .before .before .before .args .words .now) ≡ 353
 long c = search needs
 
 loop-holds : tie.Need-loop-holds Inv-loop μ-loop
 unfolding view
 loop-holds c =
     let w = c .before .before .before .before .args .words .now in
-    let l : length w ≡ 97 = long c in
+    let l : length w ≡ 353 = long c in
     releasing-start _ _ (search needs) (part-length 1 64 w (omega arith))
 
 cast-v : tie.Need-cast-v Inv-loop μ-loop

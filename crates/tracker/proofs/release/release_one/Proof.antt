@@ -18,7 +18,7 @@ returns c =
     c .empty-container .ensures (a .descriptors .now) (a .names .now)
     ∙ ap (λ (x : ℕ). withItems m (cleared (m .items) x)) (unused-one _ _ (sym (t .before .in-use .ensures) ∙ not-true _ (t .if1 .taken)))
 
-long : (c : tie.After-lengths) → length (c .before .before .before .before .args .words .now) ≡ 97
+long : (c : tie.After-lengths) → length (c .before .before .before .before .args .words .now) ≡ 353
 long c = search needs
 
 returns-2 : tie.Need-returns-2

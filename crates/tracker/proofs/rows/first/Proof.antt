@@ -7,7 +7,7 @@ use Rattle.flow.specs.Lists.{refusalFrom}
 use Rattle.flow.specs.Records.{kindOf}
 use Rattle.store.specs.Maps.{view}
 use Rattle.tracker.specs.Rows.{fitsAt, deadAt, takenAt, missingAt}
-use Rattle.tracker.proofs.Tests.{four-first, five-first, six-first, seven-first, missing-first, nine-first, ten-first, none-first}
+use Rattle.tracker.proofs.Tests.{four-first, five-first, six-first, seven-first, missing-first, nine-first, ten-first, seventeen-first, none-first}
 use borrow.Author.Needs.{needs}
 use Rattle.tracker.proofs.rows.first.Statement.{statement}
 use Rattle.tracker.proofs.rows.first.Tie as tie
@@ -37,12 +37,23 @@ returns-7 c =
 
 returns-8 : tie.Need-returns-8
 returns-8 c =
-    let c2 = c .before .before in
+    let c0 = c .before .before in
+    let c2 = c0 .before .before in
     let c4 = c2 .before .before in
     let c6 = c4 .before .before in
     let c8 = c6 .before .before in
     let c10 = c8 .before .before in
-    none-first _ _ _ (fit c10) (lives c8) (free c6) (there c4) (sym (c2 .before .holds4 .ensures) ∙ c2 .if6 .left) (sym (c .before .holds5 .ensures) ∙ c .if7 .left)
+    seventeen-first _ _ _ (fit c10) (lives c8) (free c6) (there c4) (sym (c2 .before .holds4 .ensures) ∙ c2 .if6 .left) (sym (c0 .before .holds5 .ensures) ∙ c0 .if7 .left) (sym (c .before .holds6 .ensures) ∙ c .if8 .taken)
+
+returns-9 : tie.Need-returns-9
+returns-9 c =
+    let c0 = c .before .before in
+    let c2 = c0 .before .before in
+    let c4 = c2 .before .before in
+    let c6 = c4 .before .before in
+    let c8 = c6 .before .before in
+    let c10 = c8 .before .before in
+    none-first _ _ _ (fit c10) (lives c8) (free c6) (there c4) (sym (c2 .before .holds4 .ensures) ∙ c2 .if6 .left) (sym (c0 .before .holds5 .ensures) ∙ c0 .if7 .left) (sym (c .before .holds6 .ensures) ∙ c .if8 .left)
 
 pub first-spec : {M : Type 1} → statement M
 first-spec =
@@ -58,4 +69,4 @@ first-spec =
     (λ c. let c2 = c .before .before in let c4 = c2 .before .before in missing-first _ _ _ (fit (c4 .before .before)) (lives c4) (free c2) _ (c .before .holds3 .ensures) (c .if5 .taken))
     (λ c κs. search needs)
     (λ c. let c2 = c .before .before in let c4 = c2 .before .before in let c6 = c4 .before .before in nine-first _ _ _ (fit (c6 .before .before)) (lives c6) (free c4) (there c2) (sym (c .before .holds4 .ensures) ∙ c .if6 .taken))
-    (λ c κs. search needs) returns-7 returns-8)
+    (λ c κs. search needs) returns-7 (λ c κs. search needs) returns-8 returns-9)

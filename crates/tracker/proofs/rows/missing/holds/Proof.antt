@@ -1,13 +1,13 @@
 -- `missing::holds` is the row of what is missing.
 use Prim.Native.Nat.{ℕ, suc}
 use native.Mathlib.Omega.{arith}
-use mathlib.Core.Path.{_≡_, refl, _∙_}
+use mathlib.Core.Path.{_≡_, refl, ap, _∙_}
 use mathlib.Core.Logic.{⊎-elim}
-use mathlib.Core.Bool.{Bool, true, false, not}
+use mathlib.Core.Bool.{Bool, true, false, not, Bool·not-not}
 use mathlib.Core.List.{[], _∷_}
 use mathlib.Core.Option.{Option}
 use Rattle.flow.specs.Lists.{Test, _⇒_, refusalFrom}
-use Rattle.flow.specs.Box.{descriptor, name, feedersOf, feeds, isOpen, isBound}
+use Rattle.flow.specs.Box.{descriptor, name, isOpen, isBound}
 use Rattle.flow.specs.Calls.{Kind}
 use Rattle.flow.specs.Records.{kinds}
 use Rattle.flow.specs.Refusals.{needOf, missing}
@@ -28,24 +28,22 @@ as-test true n = refl
 as-test false n = refl
 
 returns : tie.Need-returns
-unfolding view missingAt needOf missing kinds isOpen isBound descriptor name feedersOf feeds
+unfolding view missingAt needOf missing kinds isOpen isBound descriptor name
 returns c =
     let c1 = c .before in
     let c2 = c1 .before in
-    let c3 = c2 .before in
-    let c4 = c3 .before in
-    let c5 = c4 .before in
-    rw (c .unless .ensures, c1 .holds2 .ensures, c2 .fed .ensures, c3 .holds .ensures, c4 .feeders .ensures)
-    (as-test _ 15 ∙ kind-arm (row (c5 .before)) (13 ∷ []) _ refl _ (c5 .match .keys2))
+    let s = c2 .before in
+    rw (c .unless .ensures, c1 .maps .ensures (s .args .descriptors .now) (s .args .names .now))
+    (as-test _ 15 ∙ ap (λ (b : Bool). b ⇒ 16) (Bool·not-not _) ∙ kind-arm (row s) (13 ∷ []) _ refl _ (c2 .match .keys2))
 
 returns-2 : tie.Need-returns-2
-unfolding view missingAt needOf missing kinds isOpen isBound descriptor name feedersOf feeds
+unfolding view missingAt needOf missing kinds isOpen isBound descriptor name
 returns-2 c =
     let c2 = c .before .before in
     rw (c .unless2 .ensures, c .before .in-use .ensures) (as-test _ 7 ∙ kind-arm (row (c2 .before)) (19 ∷ []) _ refl _ (c2 .match .keys3))
 
 returns-3 : tie.Need-returns-3
-unfolding view missingAt needOf missing kinds isOpen isBound descriptor name feedersOf feeds
+unfolding view missingAt needOf missing kinds isOpen isBound descriptor name
 returns-3 c =
     let c2 = c .before .before in
     let c3 = c2 .before in
@@ -54,7 +52,7 @@ returns-3 c =
     (as-test _ 13 ∙ kind-between (row (c4 .before)) ((19 ∷ []) ∷ (13 ∷ []) ∷ (2 ∷ []) ∷ []) 6 13 _ refl _ (c4 .match .rest) (c3 .if1 .left) (c2 .if2 .taken) (omega arith))
 
 returns-6 : tie.Need-returns-6
-unfolding view missingAt needOf missing kinds isOpen isBound descriptor name feedersOf feeds
+unfolding view missingAt needOf missing kinds isOpen isBound descriptor name
 returns-6 c =
     let c2 = c .before .before in
     rw (c .unless4 .ensures, c .before .is-bound .ensures)
@@ -64,12 +62,12 @@ returns-6 c =
     (c2 .match .came))
 
 pub holds-spec : {M : Type 1} → statement M
-unfolding view missingAt needOf missing kinds isOpen isBound descriptor name feedersOf feeds refusalFrom
+unfolding view missingAt needOf missing kinds isOpen isBound descriptor name refusalFrom
 holds-spec =
     tie.close
     (tie.spec
     (λ c κs. search needs) (λ c κs. search needs) (λ c κs. search needs) (λ c κs. search needs) (λ c κs. search needs) (λ c κs. search needs)
-    (λ c κs. search needs) (λ c κs. search needs) (λ c κs. search needs) (λ c κs. search needs) (λ c κs. search needs)
+    (λ c κs. search needs) (λ c κs. search needs)
     returns returns-2 returns-3
     (λ c. let c1 = c .before in kind-between (row (c1 .before)) ((19 ∷ []) ∷ (13 ∷ []) ∷ (2 ∷ []) ∷ []) 0 6 _ refl _ (c1 .match .rest) (omega arith) (c .if1 .taken) (omega arith))
     (λ c. let c3 = c .before .before .before in kind-from (row (c3 .before)) ((19 ∷ []) ∷ (13 ∷ []) ∷ (2 ∷ []) ∷ []) 17 refl _ (c3 .match .rest) (c .if3 .left))
