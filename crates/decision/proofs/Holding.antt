@@ -23,7 +23,8 @@ use Rattle.flow.proofs.Refused.{refusal-read, refused-exactly}
 use Rattle.flow.proofs.Consequences.{stopped-keeps}
 use Rattle.flow.proofs.Keeping.{Invariant, state-kept}
 use Rattle.flow.proofs.Bools.{and-l, and-r}
-use Rattle.flow.proofs.Rows.{target-lt, Rows}
+use Rattle.flow.proofs.Rows.{target-lt, row-of, Rows}
+use Rattle.store.proofs.Packing.{setsFrom, countsFrom, packed-lt}
 use Rattle.flow.proofs.Entries.{Each}
 use Rattle.decision.specs.declared.Answer.{Answer}
 use Rattle.decision.specs.declared.Answer.the-variants.{Refused, Allow, Inhibit}
@@ -48,8 +49,13 @@ file-lt : (e : ℕ) → isFile e ≡ true → e < 64
 unfolding isFile
 file-lt e h = ltb-true e 64 (and-r (leb 24 e) _ h)
 
-rows-numbers : {live : ℕ} {l : List ℕ} → Rows live l → Numbers 16 (2 ^ 64) l
-rows-numbers r = record { size = r .size; fits = λ p. r .row p .fits }
+sets-numbers : {live : ℕ} {rows : List (List ℕ)} → Rows live rows → Numbers 16 (2 ^ 64) (setsFrom rows)
+unfolding setsFrom
+sets-numbers r = table-numbers 16 _ (pow-pos 64) (λ p. row-of (r .row p) .fits)
+
+counts-numbers : {live : ℕ} {rows : List (List ℕ)} → Rows live rows → Numbers 128 (2 ^ 64) (countsFrom rows)
+unfolding countsFrom
+counts-numbers r = table-numbers 128 _ (pow-pos 64) (λ k. packed-lt _ _ (r .row (k / 8) .limit))
 
 -- ---- the fields of a rule
 parts-lt : (c : Condition) → itemsFit c ≡ true → (partsOf c .0 < 256) × (partsOf c .1 < 64)
@@ -76,7 +82,9 @@ module _ (steps : List Step) (h : (n : ℕ) → ofBytes (stepAt steps n)) (k : �
       record {
         words =
             append-numbers (one-number (s .tables .live) (b .live))
-            (append-numbers (b .items) (append-numbers (rows-numbers (i .linking .feeders)) (rows-numbers (i .linking .fed))));
+            (append-numbers (b .items)
+            (append-numbers (sets-numbers (i .linking .reads))
+            (append-numbers (sets-numbers (i .linking .boths)) (append-numbers (counts-numbers (i .linking .reads)) (counts-numbers (i .linking .boths))))));
         descriptors = record { size = i .quiet .size; fits = each-below isTarget target-lt (s .tables .descriptors) (i .entries .described) };
         names = record { size = b .names; fits = each-below isFile file-lt (s .tables .names) (i .entries .named) };
         sets = table-numbers 32 _ (pow-pos 64) (state-ruled steps h k .each);

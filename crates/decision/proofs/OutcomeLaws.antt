@@ -14,7 +14,7 @@ use Rattle.sets.specs.Sets.{only, _∪_}
 use Rattle.sets.proofs.Members.{without-lt, only-lt, union-lt}
 use Rattle.flow.specs.Lists.{firstThat}
 use Rattle.flow.specs.Box.{Rule, Tables, State, name, closed}
-use Rattle.flow.specs.Calls.{Kind, start, openName, create, pipe, device, dup, close, read, write, truncate, mapRead, mapBoth, unmap, unlink, rename, link, fork, exit, label, Call, withLive, withDescriptors, withNames, withLinks, tablesBy, change, after}
+use Rattle.flow.specs.Calls.{Kind, start, openName, create, pipe, device, dup, close, read, write, truncate, mapRead, mapBoth, unmap, unlink, rename, link, fork, exit, label, Call, withLive, withDescriptors, withNames, withRow, withRows, raised, lowered, tablesBy, change, after}
 use Rattle.flow.specs.Rules.{broken, Numbered, firstBroken, lowestBroken}
 use Rattle.flow.specs.Records.{tagOf, callTag, valueOf, ruleIn, Reading, unreadable, aCall, aRule, frameTests, contentOf, readingBy, reading}
 use Rattle.flow.specs.Refusals.{inRange, ranges, fieldsFit, fieldTests, callTests, ruleTests}
@@ -49,7 +49,7 @@ module _ (s : Tables) (p a b c : ℕ) where
   kept e f = record { live = λ h. rw e h; names = f }
 
   steady-after : (kind : Kind) → fieldsFit (ranges kind) (call kind) ≡ true → Steady s (tablesBy s p a b c kind)
-  unfolding tablesBy withLive withDescriptors withNames withLinks ranges inRange
+  unfolding tablesBy withLive withDescriptors withNames withRow withRows raised lowered ranges inRange
   steady-after start h = record { live = added-lt p (ltb-true p 16 (fits-process (ranges start) (call start) h)); names = refl }
   steady-after openName h = kept refl refl
   steady-after create h = kept refl (length-set (s .names) a c)

@@ -1,15 +1,15 @@
 -- The monitor that holds a state, `held`, stands for that state: `held-view`. Its words are cut where they were joined; its rules are read
 -- from their stored fields, of which none is lost because each rule can be loaded.
-use Prim.Native.Nat.{ℕ, zero, suc, _/_, _%_, _≤_, _<_}
+use Prim.Native.Nat.{ℕ, zero, suc, _+_, _/_, _%_, _≤_, _<_}
 use native.Mathlib.Omega.{arith}
 use native.Mathlib.Nat.{mod-eq-of-lt}
-use mathlib.Core.Path.{_≡_, refl, ap₂, _∙_}
+use mathlib.Core.Path.{_≡_, refl, ap, ap₂, _∙_}
 use mathlib.Core.Bool.{true}
 use mathlib.Core.List.{List, [], _∷_, _++_}
 use mathlib.Core.Option.{none}
 use lib.Dec.{ltb}
 use lib.ListN.{getD, length, List·getD-append}
-use lib.Seq.{take-at, drop-at, take-all, drop-drop, getD-at, ext-getD}
+use lib.Seq.{take-all, getD-at, ext-getD}
 use borrow.Author.Tests.{ltb-true, ltb-false, not-false}
 use Rattle.flow.specs.Lists.{table, _⇒_, firstThat, isNone}
 use Rattle.flow.specs.Box.{Condition, forbid, separate, confine, Rule, State}
@@ -19,7 +19,9 @@ use Rattle.flow.specs.Kept.{wellFormed, allWellFormed}
 use Rattle.flow.proofs.Bools.{and-l, and-r, by}
 use Rattle.flow.proofs.TableLaws.{table-at, table-length, none-is, AllNone, all-none, untrue}
 use Rattle.flow.proofs.Keeping.{Invariant}
-use Rattle.store.specs.Maps.{part, view as mapsOf}
+use Rattle.store.specs.Maps.{part, rowsIn, view as mapsOf}
+use Rattle.store.proofs.Parts.{part-here, part-there}
+use Rattle.store.proofs.Packing.{setsFrom, countsFrom, rows-back}
 use Rattle.rules.specs.Stored.{place, countField, conditionAt, actionAt, substituteAt, ruleAt, countOf, rulesOf}
 use Rattle.rules.proofs.StoredLaws.{count-all, count-full}
 use Rattle.rules.proofs.LoadingLaws.{fit-substitute}
@@ -49,7 +51,9 @@ unfoldable pub fieldsOf : List Rule → List ℕ
 fieldsOf rs = table 128 (λ i. fieldOf (getD rs (i / 4) blank) (i % 4)) ++ (length rs ∷ [])
 
 unfoldable pub wordsOf : State → List ℕ
-wordsOf s = s .tables .live ∷ (s .items ++ (s .tables .feeders ++ s .tables .fed))
+wordsOf s =
+    (s .tables .live ∷ [])
+    ++ (s .items ++ (setsFrom (s .tables .reads) ++ (setsFrom (s .tables .boths) ++ (countsFrom (s .tables .reads) ++ countsFrom (s .tables .boths)))))
 
 unfoldable pub held : State → Monitor
 held s = monitor (wordsOf s) (s .tables .descriptors) (s .tables .names) (setsOf (s .rules)) (fieldsOf (s .rules))
@@ -114,22 +118,62 @@ module _ (rs : List Rule) (loadable : allWellFormed rs ≡ true) (counted : leng
 
 -- ---- the state
 module _ (s : State) (i : Invariant s) (items-size : length (s .items) ≡ 64) where
-  feeders-held : part 65 16 (wordsOf s) ≡ s .tables .feeders
-  unfolding part wordsOf
-  feeders-held = rw (drop-at (s .items) _ 64 items-size) (take-at (s .tables .feeders) (s .tables .fed) 16 (i .linking .feeders .size))
+  abbrev reads : List (List ℕ)
+  reads = s .tables .reads
 
-  fed-held : part 81 16 (wordsOf s) ≡ s .tables .fed
-  unfolding part wordsOf
-  fed-held =
-      rw (← (drop-drop 16 64 (s .items ++ (s .tables .feeders ++ s .tables .fed))), drop-at (s .items) _ 64 items-size, drop-at (s .tables .feeders) _ 16 (i .linking .feeders .size))
-      (take-all 16 (s .tables .fed) (omega (arith, i .linking .fed .size)))
+  abbrev boths : List (List ℕ)
+  boths = s .tables .boths
+
+  -- behind the live processes and the items
+  behind : (a n : ℕ) → part (65 + a) n (wordsOf s) ≡ part a n (setsFrom reads ++ (setsFrom boths ++ (countsFrom reads ++ countsFrom boths)))
+  unfolding wordsOf
+  behind a n =
+      ap (λ (k : ℕ). part k n (wordsOf s)) (let e : 65 + a ≡ 1 + (64 + a) = omega arith in e) ∙ part-there (s .tables .live ∷ []) _ 1 (64 + a) n refl
+      ∙ part-there (s .items) _ 64 a n items-size
+
+  sets-size : (rows : List (List ℕ)) → length (setsFrom rows) ≡ 16
+  unfolding setsFrom
+  sets-size rows = table-length 16 _
+
+  counts-size : (rows : List (List ℕ)) → length (countsFrom rows) ≡ 128
+  unfolding countsFrom
+  counts-size rows = table-length 128 _
+
+  read-sets : part 65 16 (wordsOf s) ≡ setsFrom reads
+  read-sets = behind 0 16 ∙ part-here (setsFrom reads) _ 16 (sets-size reads)
+
+  both-sets : part 81 16 (wordsOf s) ≡ setsFrom boths
+  both-sets = behind 16 16 ∙ part-there (setsFrom reads) _ 16 0 16 (sets-size reads) ∙ part-here (setsFrom boths) _ 16 (sets-size boths)
+
+  -- the counts, behind both
+  counts-behind : (a n : ℕ) → part (97 + a) n (wordsOf s) ≡ part a n (countsFrom reads ++ countsFrom boths)
+  counts-behind a n =
+      ap (λ (k : ℕ). part k n (wordsOf s)) (let e : 97 + a ≡ 65 + (16 + (16 + a)) = omega arith in e) ∙ behind (16 + (16 + a)) n
+      ∙ part-there (setsFrom reads) _ 16 (16 + a) n (sets-size reads) ∙ part-there (setsFrom boths) _ 16 a n (sets-size boths)
+
+  read-counts : part 97 128 (wordsOf s) ≡ countsFrom reads
+  read-counts = counts-behind 0 128 ∙ part-here (countsFrom reads) _ 128 (counts-size reads)
+
+  both-counts : part 225 128 (wordsOf s) ≡ countsFrom boths
+  unfolding part
+  both-counts = counts-behind 128 128 ∙ part-there (countsFrom reads) (countsFrom boths) 128 0 128 (counts-size reads) ∙ take-all 128 (countsFrom boths) (omega (arith, counts-size boths))
+
+  items-held : part 1 64 (wordsOf s) ≡ s .items
+  unfolding wordsOf
+  items-held = part-there (s .tables .live ∷ []) _ 1 0 64 refl ∙ part-here (s .items) _ 64 items-size
 
   pub held-view : view (held s) ≡ s
-  unfolding view mapsOf held wordsOf part
+  unfolding view mapsOf held wordsOf
   held-view =
       λ k. record {
         tables =
-            record { live = s .tables .live; feeders = feeders-held k; fed = fed-held k; descriptors = s .tables .descriptors; names = s .tables .names };
-        items = take-at (s .items) (s .tables .feeders ++ s .tables .fed) 64 items-size k;
+            record {
+              live = s .tables .live;
+              reads = (ap₂ rowsIn read-sets read-counts ∙ rows-back reads (i .linking .reads)) k;
+              boths = (ap₂ rowsIn both-sets both-counts ∙ rows-back boths (i .linking .boths)) k;
+              descriptors = s .tables .descriptors;
+              names = s .tables .names;
+            };
+        items = items-held k;
         rules = rules-held (s .rules) (i .loadable) (i .counted) k;
       }

@@ -23,7 +23,7 @@ use Rattle.decision.proofs.Monitor as T
 
 -- the fields' types, and the fields as members
 abbrev pub R-words : RattleType
-R-words = Array u64 97
+R-words = Array u64 353
 
 abbrev pub R-descriptors : RattleType
 R-descriptors = Array u8 512
@@ -38,11 +38,11 @@ abbrev pub R-fields : RattleType
 R-fields = Array u8 129
 
 abbrev pub ms : List Member
-ms = record { row = R-words; ty = tyArray (tyInt w64) 97 } ∷ record { row = R-descriptors; ty = tyArray (tyInt w8) 512 } ∷ record { row = R-names; ty = tyArray (tyInt w8) 128 } ∷ record { row = R-sets; ty = tyArray (tyInt w64) 32 } ∷ record { row = R-fields; ty = tyArray (tyInt w8) 129 } ∷ []
+ms = record { row = R-words; ty = tyArray (tyInt w64) 353 } ∷ record { row = R-descriptors; ty = tyArray (tyInt w8) 512 } ∷ record { row = R-names; ty = tyArray (tyInt w8) 128 } ∷ record { row = R-sets; ty = tyArray (tyInt w64) 32 } ∷ record { row = R-fields; ty = tyArray (tyInt w8) 129 } ∷ []
 
 module _ {M : Type 1} (𝓤 : URA M) (H : Heap 𝓤) (A : Atoms 𝓤) (W : Given 𝓤 H A) (b o : ℕ) (s : Share) (h : Monitor) where
   abbrev rows-lawful : Lawfuls 𝓤 H A (rowsOf ms)
-  rows-lawful = (array-lawful 𝓤 H A W u64 (uint-lawful 𝓤 H A W w64) 97, (array-lawful 𝓤 H A W u8 (uint-lawful 𝓤 H A W w8) 512, (array-lawful 𝓤 H A W u8 (uint-lawful 𝓤 H A W w8) 128, (array-lawful 𝓤 H A W u64 (uint-lawful 𝓤 H A W w64) 32, (array-lawful 𝓤 H A W u8 (uint-lawful 𝓤 H A W w8) 129, tt)))))
+  rows-lawful = (array-lawful 𝓤 H A W u64 (uint-lawful 𝓤 H A W w64) 353, (array-lawful 𝓤 H A W u8 (uint-lawful 𝓤 H A W w8) 512, (array-lawful 𝓤 H A W u8 (uint-lawful 𝓤 H A W w8) 128, (array-lawful 𝓤 H A W u64 (uint-lawful 𝓤 H A W w64) 32, (array-lawful 𝓤 H A W u8 (uint-lawful 𝓤 H A W w8) 129, tt)))))
 
   abbrev pub Back : SProp 𝓤
   Back = PartsBack 𝓤 H A s (T.struct .name) ms b o

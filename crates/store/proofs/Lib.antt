@@ -10,3 +10,4 @@ pub mod Searching
 pub mod Worklist
 pub mod Words
 pub mod Files
+pub mod Packing

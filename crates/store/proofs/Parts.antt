@@ -2,10 +2,10 @@
 use Prim.Native.Nat.{ℕ, zero, suc, _+_, _≤_, _<_}
 use native.Mathlib.Omega.{arith}
 use native.Mathlib.Nat.{not-suc-le-zero, le-of-suc-le-suc}
-use mathlib.Core.Path.{_≡_, refl, sym, _∙_}
-use mathlib.Core.List.{List, [], _∷_}
+use mathlib.Core.Path.{_≡_, refl, sym, ap, _∙_}
+use mathlib.Core.List.{List, [], _∷_, _++_}
 use lib.ListN.{length, getD, take, drop, length-take, length-drop}
-use lib.Seq.{getD-take, getD-drop}
+use lib.Seq.{getD-take, getD-drop, take-at, drop-at, drop-drop}
 use Rattle.store.specs.Maps.{part}
 
 -- an element does not depend on the default
@@ -35,3 +35,12 @@ part-length a n w h = simp (length-take, length-drop) (omega arith)
 pub part-most : (a n : ℕ) (w : List ℕ) → length (part a n w) ≤ n
 unfolding part
 part-most a n w = simp length-take (omega arith)
+
+-- a part of two lists in a row: the first itself, and one of the second
+pub part-here : (xs ys : List ℕ) (n : ℕ) → length xs ≡ n → part 0 n (xs ++ ys) ≡ xs
+unfolding part
+part-here xs ys n e = take-at xs ys n e
+
+pub part-there : (xs ys : List ℕ) (k a n : ℕ) → length xs ≡ k → part (k + a) n (xs ++ ys) ≡ part a n ys
+unfolding part
+part-there xs ys k a n e = ap (take n) (sym (drop-drop a k (xs ++ ys)) ∙ ap (drop a) (drop-at xs ys k e))

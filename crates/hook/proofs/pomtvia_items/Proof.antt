@@ -77,10 +77,10 @@ module _ {M : Type 1} (𝓤 : URA M) (H : Heap 𝓤) (A : Atoms 𝓤) (W : Given
 
   -- what the callee's triple binds outside, and what it asks
   abbrev to-step : ℕ → ℕ → ℕ → ℕ → ℕ → GName → GName → GName → GName → GName → Step 𝓤 H A at-mem run .Ghost
-  to-step ν-words ν-descriptors ν-names ν-sets ν-fields δ-words δ-descriptors δ-names δ-sets δ-fields = (((ν-words ∷ [], (ν-descriptors ∷ [], (ν-names ∷ [], (ν-sets ∷ [], (ν-fields ∷ [], (κ-set, tt)))))), (fullShare, (fullShare, (fullShare, (fullShare, (fullShare, (q-set, tt)))))), tt, (refAt b (o + 0) (h .words) δ-words, (refAt b (o + 776) (h .descriptors) δ-descriptors, (refAt b (o + 1288) (h .names) δ-names, (refAt b (o + 1416) (h .sets) δ-sets, (refAt b (o + 1672) (h .fields) δ-fields, (x-c, (record { ptr = (b-set, o-set); name = γ-set; now = x-set }, tt))))))), (vptr b (o + 0) ∷ [], (vptr b (o + 776) ∷ [], (vptr b (o + 1288) ∷ [], (vptr b (o + 1416) ∷ [], (vptr b (o + 1672) ∷ [], (vint w8 x-c ∷ [], (vptr b-set o-set ∷ [], tt)))))))), tt)
+  to-step ν-words ν-descriptors ν-names ν-sets ν-fields δ-words δ-descriptors δ-names δ-sets δ-fields = (((ν-words ∷ [], (ν-descriptors ∷ [], (ν-names ∷ [], (ν-sets ∷ [], (ν-fields ∷ [], (κ-set, tt)))))), (fullShare, (fullShare, (fullShare, (fullShare, (fullShare, (q-set, tt)))))), tt, (refAt b (o + 0) (h .words) δ-words, (refAt b (o + 2824) (h .descriptors) δ-descriptors, (refAt b (o + 3336) (h .names) δ-names, (refAt b (o + 3464) (h .sets) δ-sets, (refAt b (o + 3720) (h .fields) δ-fields, (x-c, (record { ptr = (b-set, o-set); name = γ-set; now = x-set }, tt))))))), (vptr b (o + 0) ∷ [], (vptr b (o + 2824) ∷ [], (vptr b (o + 3336) ∷ [], (vptr b (o + 3464) ∷ [], (vptr b (o + 3720) ∷ [], (vint w8 x-c ∷ [], (vptr b-set o-set ∷ [], tt)))))))), tt)
 
-  goes-step : (ν-words : ℕ) (ν-descriptors : ℕ) (ν-names : ℕ) (ν-sets : ℕ) (ν-fields : ℕ) (δ-words : GName) (δ-descriptors : GName) (δ-names : GName) (δ-sets : GName) (δ-fields : GName) → ent 𝓤 (⋆ 𝓤 H A (((‵ (flft (ν-words ∷ []) fullShare) ⊛ ‵ (flft (ν-descriptors ∷ []) fullShare) ⊛ ‵ (flft (ν-names ∷ []) fullShare) ⊛ ‵ (flft (ν-sets ∷ []) fullShare) ⊛ ‵ (flft (ν-fields ∷ []) fullShare) ⊛ ‵ (flft κ-set q-set) ⊛ ‵ ftrue) ⊛ ‵ (owns (ShrRef (named 0) (ν-words ∷ []) R-words ∷ ShrRef (named 1) (ν-descriptors ∷ []) R-descriptors ∷ ShrRef (named 2) (ν-names ∷ []) R-names ∷ ShrRef (named 3) (ν-sets ∷ []) R-sets ∷ ShrRef (named 4) (ν-fields ∷ []) R-fields ∷ u8 ∷ MutRef (named 5) κ-set u64 ∷ []) (refAt b (o + 0) (h .words) δ-words, (refAt b (o + 776) (h .descriptors) δ-descriptors, (refAt b (o + 1288) (h .names) δ-names, (refAt b (o + 1416) (h .sets) δ-sets, (refAt b (o + 1672) (h .fields) δ-fields, (x-c, (record { ptr = (b-set, o-set); name = γ-set; now = x-set }, tt))))))) (vptr b (o + 0) ∷ [], (vptr b (o + 776) ∷ [], (vptr b (o + 1288) ∷ [], (vptr b (o + 1416) ∷ [], (vptr b (o + 1672) ∷ [], (vint w8 x-c ∷ [], (vptr b-set o-set ∷ [], tt))))))))) ∷ [])) (Step 𝓤 H A at-mem run .pre (to-step ν-words ν-descriptors ν-names ν-sets ν-fields δ-words δ-descriptors δ-names δ-sets δ-fields))
-  goes-step ν-words ν-descriptors ν-names ν-sets ν-fields δ-words δ-descriptors δ-names δ-sets δ-fields = qed W (((‵ (flft (ν-words ∷ []) fullShare) ⊛ ‵ (flft (ν-descriptors ∷ []) fullShare) ⊛ ‵ (flft (ν-names ∷ []) fullShare) ⊛ ‵ (flft (ν-sets ∷ []) fullShare) ⊛ ‵ (flft (ν-fields ∷ []) fullShare) ⊛ ‵ (flft κ-set q-set) ⊛ ‵ ftrue) ⊛ ‵ (owns (ShrRef (named 0) (ν-words ∷ []) R-words ∷ ShrRef (named 1) (ν-descriptors ∷ []) R-descriptors ∷ ShrRef (named 2) (ν-names ∷ []) R-names ∷ ShrRef (named 3) (ν-sets ∷ []) R-sets ∷ ShrRef (named 4) (ν-fields ∷ []) R-fields ∷ u8 ∷ MutRef (named 5) κ-set u64 ∷ []) (refAt b (o + 0) (h .words) δ-words, (refAt b (o + 776) (h .descriptors) δ-descriptors, (refAt b (o + 1288) (h .names) δ-names, (refAt b (o + 1416) (h .sets) δ-sets, (refAt b (o + 1672) (h .fields) δ-fields, (x-c, (record { ptr = (b-set, o-set); name = γ-set; now = x-set }, tt))))))) (vptr b (o + 0) ∷ [], (vptr b (o + 776) ∷ [], (vptr b (o + 1288) ∷ [], (vptr b (o + 1416) ∷ [], (vptr b (o + 1672) ∷ [], (vint w8 x-c ∷ [], (vptr b-set o-set ∷ [], tt))))))))) ∷ []) ∵ frame ! $ done !
+  goes-step : (ν-words : ℕ) (ν-descriptors : ℕ) (ν-names : ℕ) (ν-sets : ℕ) (ν-fields : ℕ) (δ-words : GName) (δ-descriptors : GName) (δ-names : GName) (δ-sets : GName) (δ-fields : GName) → ent 𝓤 (⋆ 𝓤 H A (((‵ (flft (ν-words ∷ []) fullShare) ⊛ ‵ (flft (ν-descriptors ∷ []) fullShare) ⊛ ‵ (flft (ν-names ∷ []) fullShare) ⊛ ‵ (flft (ν-sets ∷ []) fullShare) ⊛ ‵ (flft (ν-fields ∷ []) fullShare) ⊛ ‵ (flft κ-set q-set) ⊛ ‵ ftrue) ⊛ ‵ (owns (ShrRef (named 0) (ν-words ∷ []) R-words ∷ ShrRef (named 1) (ν-descriptors ∷ []) R-descriptors ∷ ShrRef (named 2) (ν-names ∷ []) R-names ∷ ShrRef (named 3) (ν-sets ∷ []) R-sets ∷ ShrRef (named 4) (ν-fields ∷ []) R-fields ∷ u8 ∷ MutRef (named 5) κ-set u64 ∷ []) (refAt b (o + 0) (h .words) δ-words, (refAt b (o + 2824) (h .descriptors) δ-descriptors, (refAt b (o + 3336) (h .names) δ-names, (refAt b (o + 3464) (h .sets) δ-sets, (refAt b (o + 3720) (h .fields) δ-fields, (x-c, (record { ptr = (b-set, o-set); name = γ-set; now = x-set }, tt))))))) (vptr b (o + 0) ∷ [], (vptr b (o + 2824) ∷ [], (vptr b (o + 3336) ∷ [], (vptr b (o + 3464) ∷ [], (vptr b (o + 3720) ∷ [], (vint w8 x-c ∷ [], (vptr b-set o-set ∷ [], tt))))))))) ∷ [])) (Step 𝓤 H A at-mem run .pre (to-step ν-words ν-descriptors ν-names ν-sets ν-fields δ-words δ-descriptors δ-names δ-sets δ-fields))
+  goes-step ν-words ν-descriptors ν-names ν-sets ν-fields δ-words δ-descriptors δ-names δ-sets δ-fields = qed W (((‵ (flft (ν-words ∷ []) fullShare) ⊛ ‵ (flft (ν-descriptors ∷ []) fullShare) ⊛ ‵ (flft (ν-names ∷ []) fullShare) ⊛ ‵ (flft (ν-sets ∷ []) fullShare) ⊛ ‵ (flft (ν-fields ∷ []) fullShare) ⊛ ‵ (flft κ-set q-set) ⊛ ‵ ftrue) ⊛ ‵ (owns (ShrRef (named 0) (ν-words ∷ []) R-words ∷ ShrRef (named 1) (ν-descriptors ∷ []) R-descriptors ∷ ShrRef (named 2) (ν-names ∷ []) R-names ∷ ShrRef (named 3) (ν-sets ∷ []) R-sets ∷ ShrRef (named 4) (ν-fields ∷ []) R-fields ∷ u8 ∷ MutRef (named 5) κ-set u64 ∷ []) (refAt b (o + 0) (h .words) δ-words, (refAt b (o + 2824) (h .descriptors) δ-descriptors, (refAt b (o + 3336) (h .names) δ-names, (refAt b (o + 3464) (h .sets) δ-sets, (refAt b (o + 3720) (h .fields) δ-fields, (x-c, (record { ptr = (b-set, o-set); name = γ-set; now = x-set }, tt))))))) (vptr b (o + 0) ∷ [], (vptr b (o + 2824) ∷ [], (vptr b (o + 3336) ∷ [], (vptr b (o + 3464) ∷ [], (vptr b (o + 3720) ∷ [], (vint w8 x-c ∷ [], (vptr b-set o-set ∷ [], tt))))))))) ∷ []) ∵ frame ! $ done !
 
   -- what the callee leaves, the struct after it, and what it says of them
   abbrev Lasts : Type 0
@@ -122,15 +122,15 @@ module _ {M : Type 1} (𝓤 : URA M) (H : Heap 𝓤) (A : Atoms 𝓤) (W : Given
         use1 W (‵ (partsAt s ms 0 (T.the-type .to h) b o) ⊛ raw (Back 𝓤 H A W b o s h)) (apart 𝓤 H A W b o s h) $ split ! $
         lft-new ! tt (λ ν-words. lft-new ! tt (λ ν-descriptors. lft-new ! tt (λ ν-names. lft-new ! tt (λ ν-sets.
         lft-new ! tt (λ ν-fields. move ! (5 ∷ []) $ fsplit ! $
-        use1 W (LentShr 𝓤 R-words 0 ν-words (h .words) b (o + 0) s) (lend-shr 𝓤 H A W u64 97 (h .words) b (o + 0) 0 ν-words s) $ await ! tt $ pick ! (λ δ-words. split ! $
+        use1 W (LentShr 𝓤 R-words 0 ν-words (h .words) b (o + 0) s) (lend-shr 𝓤 H A W u64 353 (h .words) b (o + 0) 0 ν-words s) $ await ! tt $ pick ! (λ δ-words. split ! $
         move ! (2 ∷ []) $ fsplit ! $
-        use1 W (LentShr 𝓤 R-descriptors 1 ν-descriptors (h .descriptors) b (o + 776) s) (lend-shr 𝓤 H A W u8 512 (h .descriptors) b (o + 776) 1 ν-descriptors s) $ await ! tt $ pick ! (λ δ-descriptors. split ! $
+        use1 W (LentShr 𝓤 R-descriptors 1 ν-descriptors (h .descriptors) b (o + 2824) s) (lend-shr 𝓤 H A W u8 512 (h .descriptors) b (o + 2824) 1 ν-descriptors s) $ await ! tt $ pick ! (λ δ-descriptors. split ! $
         move ! (2 ∷ []) $ fsplit ! $
-        use1 W (LentShr 𝓤 R-names 2 ν-names (h .names) b (o + 1288) s) (lend-shr 𝓤 H A W u8 128 (h .names) b (o + 1288) 2 ν-names s) $ await ! tt $ pick ! (λ δ-names. split ! $
+        use1 W (LentShr 𝓤 R-names 2 ν-names (h .names) b (o + 3336) s) (lend-shr 𝓤 H A W u8 128 (h .names) b (o + 3336) 2 ν-names s) $ await ! tt $ pick ! (λ δ-names. split ! $
         move ! (2 ∷ []) $ fsplit ! $
-        use1 W (LentShr 𝓤 R-sets 3 ν-sets (h .sets) b (o + 1416) s) (lend-shr 𝓤 H A W u64 32 (h .sets) b (o + 1416) 3 ν-sets s) $ await ! tt $ pick ! (λ δ-sets. split ! $
+        use1 W (LentShr 𝓤 R-sets 3 ν-sets (h .sets) b (o + 3464) s) (lend-shr 𝓤 H A W u64 32 (h .sets) b (o + 3464) 3 ν-sets s) $ await ! tt $ pick ! (λ δ-sets. split ! $
         move ! (2 ∷ []) $ fsplit ! $
-        use1 W (LentShr 𝓤 R-fields 4 ν-fields (h .fields) b (o + 1672) s) (lend-shr 𝓤 H A W u8 129 (h .fields) b (o + 1672) 4 ν-fields s) $ await ! tt $ pick ! (λ δ-fields. split ! $
+        use1 W (LentShr 𝓤 R-fields 4 ν-fields (h .fields) b (o + 3720) s) (lend-shr 𝓤 H A W u8 129 (h .fields) b (o + 3720) 4 ν-fields s) $ await ! tt $ pick ! (λ δ-fields. split ! $
         -- what the callee asks is put together, and it is called
         move ! (0 ∷ 21 ∷ []) $ fjoin ! $ move ! (3 ∷ 0 ∷ []) $ fjoin ! $ move ! (4 ∷ 0 ∷ []) $ fjoin ! $ move ! (5 ∷ 0 ∷ []) $
         fjoin ! $ move ! (6 ∷ 0 ∷ []) $ fjoin ! $ nothing ! $ move ! (15 ∷ 0 ∷ []) $ join ! $ move ! (8 ∷ 0 ∷ []) $ join ! $
@@ -150,13 +150,13 @@ module _ {M : Type 1} (𝓤 : URA M) (H : Heap 𝓤) (A : Atoms 𝓤) (W : Given
         move ! (1 ∷ []) $ split ! $ move ! (1 ∷ []) $ split ! $ move ! (6 ∷ 22 ∷ []) $ lft-end ! tt $ lent-back ! tt $
         rewrite ! 0 (λ (l : List ℕ). ‵ (partAt R-words s l b (o + 0))) (sym (map-id (h .words))) refl $ move ! (6 ∷ 21 ∷ []) $
         lft-end ! tt $ lent-back ! tt $
-        rewrite ! 0 (λ (l : List ℕ). ‵ (partAt R-descriptors s l b (o + 776))) (sym (map-id (h .descriptors))) refl $
+        rewrite ! 0 (λ (l : List ℕ). ‵ (partAt R-descriptors s l b (o + 2824))) (sym (map-id (h .descriptors))) refl $
         move ! (6 ∷ 20 ∷ []) $ lft-end ! tt $ lent-back ! tt $
-        rewrite ! 0 (λ (l : List ℕ). ‵ (partAt R-names s l b (o + 1288))) (sym (map-id (h .names))) refl $
+        rewrite ! 0 (λ (l : List ℕ). ‵ (partAt R-names s l b (o + 3336))) (sym (map-id (h .names))) refl $
         move ! (6 ∷ 19 ∷ []) $ lft-end ! tt $ lent-back ! tt $
-        rewrite ! 0 (λ (l : List ℕ). ‵ (partAt R-sets s l b (o + 1416))) (sym (map-id (h .sets))) refl $ move ! (6 ∷ 17 ∷ []) $
+        rewrite ! 0 (λ (l : List ℕ). ‵ (partAt R-sets s l b (o + 3464))) (sym (map-id (h .sets))) refl $ move ! (6 ∷ 17 ∷ []) $
         lft-end ! tt $ lent-back ! tt $
-        rewrite ! 0 (λ (l : List ℕ). ‵ (partAt R-fields s l b (o + 1672))) (sym (map-id (h .fields))) refl $
+        rewrite ! 0 (λ (l : List ℕ). ‵ (partAt R-fields s l b (o + 3720))) (sym (map-id (h .fields))) refl $
         -- the struct is put together, and the borrow is closed
         nothing ! $ move ! (1 ∷ 0 ∷ []) $ fjoin ! $ move ! (1 ∷ 0 ∷ []) $ fjoin ! $ move ! (1 ∷ 0 ∷ []) $ fjoin ! $
         move ! (1 ∷ 0 ∷ []) $ fjoin ! $ move ! (1 ∷ 0 ∷ []) $ fjoin ! $ move ! (0 ∷ 14 ∷ []) $

@@ -80,10 +80,10 @@ module _ {M : Type 1} (𝓤 : URA M) (H : Heap 𝓤) (A : Atoms 𝓤) (W : Given
 
   -- what the callee's triple binds outside, and what it asks
   abbrev to-step : ℕ → ℕ → ℕ → ℕ → ℕ → GName → GName → GName → GName → GName → Step 𝓤 H A at-mem run .Ghost
-  to-step ν-words ν-descriptors ν-names ν-sets ν-fields δ-words δ-descriptors δ-names δ-sets δ-fields = (((ν-words ∷ [], (ν-descriptors ∷ [], (ν-names ∷ [], (ν-sets ∷ [], (ν-fields ∷ [], (κ-log, (κ-codes, (κ-count, tt)))))))), (fullShare, (fullShare, (fullShare, (fullShare, (fullShare, (q-log, (q-codes, (q-count, tt)))))))), tt, (refAt b (o + 0) (h .words) δ-words, (refAt b (o + 776) (h .descriptors) δ-descriptors, (refAt b (o + 1288) (h .names) δ-names, (refAt b (o + 1416) (h .sets) δ-sets, (refAt b (o + 1672) (h .fields) δ-fields, (record { ptr = (b-log, o-log); name = γ-log; now = x-log }, (record { ptr = (b-codes, o-codes); name = γ-codes; now = x-codes }, (record { ptr = (b-count, o-count); name = γ-count; now = x-count }, tt)))))))), (vptr b (o + 0) ∷ [], (vptr b (o + 776) ∷ [], (vptr b (o + 1288) ∷ [], (vptr b (o + 1416) ∷ [], (vptr b (o + 1672) ∷ [], (sliceVal (b-log, o-log) (length x-log) ∷ [], (sliceVal (b-codes, o-codes) (length x-codes) ∷ [], (vptr b-count o-count ∷ [], tt))))))))), tt)
+  to-step ν-words ν-descriptors ν-names ν-sets ν-fields δ-words δ-descriptors δ-names δ-sets δ-fields = (((ν-words ∷ [], (ν-descriptors ∷ [], (ν-names ∷ [], (ν-sets ∷ [], (ν-fields ∷ [], (κ-log, (κ-codes, (κ-count, tt)))))))), (fullShare, (fullShare, (fullShare, (fullShare, (fullShare, (q-log, (q-codes, (q-count, tt)))))))), tt, (refAt b (o + 0) (h .words) δ-words, (refAt b (o + 2824) (h .descriptors) δ-descriptors, (refAt b (o + 3336) (h .names) δ-names, (refAt b (o + 3464) (h .sets) δ-sets, (refAt b (o + 3720) (h .fields) δ-fields, (record { ptr = (b-log, o-log); name = γ-log; now = x-log }, (record { ptr = (b-codes, o-codes); name = γ-codes; now = x-codes }, (record { ptr = (b-count, o-count); name = γ-count; now = x-count }, tt)))))))), (vptr b (o + 0) ∷ [], (vptr b (o + 2824) ∷ [], (vptr b (o + 3336) ∷ [], (vptr b (o + 3464) ∷ [], (vptr b (o + 3720) ∷ [], (sliceVal (b-log, o-log) (length x-log) ∷ [], (sliceVal (b-codes, o-codes) (length x-codes) ∷ [], (vptr b-count o-count ∷ [], tt))))))))), tt)
 
-  goes-step : (ν-words : ℕ) (ν-descriptors : ℕ) (ν-names : ℕ) (ν-sets : ℕ) (ν-fields : ℕ) (δ-words : GName) (δ-descriptors : GName) (δ-names : GName) (δ-sets : GName) (δ-fields : GName) → ent 𝓤 (⋆ 𝓤 H A (((‵ (flft (ν-words ∷ []) fullShare) ⊛ ‵ (flft (ν-descriptors ∷ []) fullShare) ⊛ ‵ (flft (ν-names ∷ []) fullShare) ⊛ ‵ (flft (ν-sets ∷ []) fullShare) ⊛ ‵ (flft (ν-fields ∷ []) fullShare) ⊛ ‵ (flft κ-log q-log) ⊛ ‵ (flft κ-codes q-codes) ⊛ ‵ (flft κ-count q-count) ⊛ ‵ ftrue) ⊛ ‵ (owns (MutRef (named 0) (ν-words ∷ []) R-words ∷ MutRef (named 1) (ν-descriptors ∷ []) R-descriptors ∷ MutRef (named 2) (ν-names ∷ []) R-names ∷ MutRef (named 3) (ν-sets ∷ []) R-sets ∷ MutRef (named 4) (ν-fields ∷ []) R-fields ∷ ShrSlice (named 5) κ-log u8 ∷ MutSlice (named 6) κ-codes u32 ∷ MutRef (named 7) κ-count u64 ∷ []) (refAt b (o + 0) (h .words) δ-words, (refAt b (o + 776) (h .descriptors) δ-descriptors, (refAt b (o + 1288) (h .names) δ-names, (refAt b (o + 1416) (h .sets) δ-sets, (refAt b (o + 1672) (h .fields) δ-fields, (record { ptr = (b-log, o-log); name = γ-log; now = x-log }, (record { ptr = (b-codes, o-codes); name = γ-codes; now = x-codes }, (record { ptr = (b-count, o-count); name = γ-count; now = x-count }, tt)))))))) (vptr b (o + 0) ∷ [], (vptr b (o + 776) ∷ [], (vptr b (o + 1288) ∷ [], (vptr b (o + 1416) ∷ [], (vptr b (o + 1672) ∷ [], (sliceVal (b-log, o-log) (length x-log) ∷ [], (sliceVal (b-codes, o-codes) (length x-codes) ∷ [], (vptr b-count o-count ∷ [], tt)))))))))) ∷ [])) (Step 𝓤 H A at-mem run .pre (to-step ν-words ν-descriptors ν-names ν-sets ν-fields δ-words δ-descriptors δ-names δ-sets δ-fields))
-  goes-step ν-words ν-descriptors ν-names ν-sets ν-fields δ-words δ-descriptors δ-names δ-sets δ-fields = qed W (((‵ (flft (ν-words ∷ []) fullShare) ⊛ ‵ (flft (ν-descriptors ∷ []) fullShare) ⊛ ‵ (flft (ν-names ∷ []) fullShare) ⊛ ‵ (flft (ν-sets ∷ []) fullShare) ⊛ ‵ (flft (ν-fields ∷ []) fullShare) ⊛ ‵ (flft κ-log q-log) ⊛ ‵ (flft κ-codes q-codes) ⊛ ‵ (flft κ-count q-count) ⊛ ‵ ftrue) ⊛ ‵ (owns (MutRef (named 0) (ν-words ∷ []) R-words ∷ MutRef (named 1) (ν-descriptors ∷ []) R-descriptors ∷ MutRef (named 2) (ν-names ∷ []) R-names ∷ MutRef (named 3) (ν-sets ∷ []) R-sets ∷ MutRef (named 4) (ν-fields ∷ []) R-fields ∷ ShrSlice (named 5) κ-log u8 ∷ MutSlice (named 6) κ-codes u32 ∷ MutRef (named 7) κ-count u64 ∷ []) (refAt b (o + 0) (h .words) δ-words, (refAt b (o + 776) (h .descriptors) δ-descriptors, (refAt b (o + 1288) (h .names) δ-names, (refAt b (o + 1416) (h .sets) δ-sets, (refAt b (o + 1672) (h .fields) δ-fields, (record { ptr = (b-log, o-log); name = γ-log; now = x-log }, (record { ptr = (b-codes, o-codes); name = γ-codes; now = x-codes }, (record { ptr = (b-count, o-count); name = γ-count; now = x-count }, tt)))))))) (vptr b (o + 0) ∷ [], (vptr b (o + 776) ∷ [], (vptr b (o + 1288) ∷ [], (vptr b (o + 1416) ∷ [], (vptr b (o + 1672) ∷ [], (sliceVal (b-log, o-log) (length x-log) ∷ [], (sliceVal (b-codes, o-codes) (length x-codes) ∷ [], (vptr b-count o-count ∷ [], tt)))))))))) ∷ []) ∵ frame ! $ done !
+  goes-step : (ν-words : ℕ) (ν-descriptors : ℕ) (ν-names : ℕ) (ν-sets : ℕ) (ν-fields : ℕ) (δ-words : GName) (δ-descriptors : GName) (δ-names : GName) (δ-sets : GName) (δ-fields : GName) → ent 𝓤 (⋆ 𝓤 H A (((‵ (flft (ν-words ∷ []) fullShare) ⊛ ‵ (flft (ν-descriptors ∷ []) fullShare) ⊛ ‵ (flft (ν-names ∷ []) fullShare) ⊛ ‵ (flft (ν-sets ∷ []) fullShare) ⊛ ‵ (flft (ν-fields ∷ []) fullShare) ⊛ ‵ (flft κ-log q-log) ⊛ ‵ (flft κ-codes q-codes) ⊛ ‵ (flft κ-count q-count) ⊛ ‵ ftrue) ⊛ ‵ (owns (MutRef (named 0) (ν-words ∷ []) R-words ∷ MutRef (named 1) (ν-descriptors ∷ []) R-descriptors ∷ MutRef (named 2) (ν-names ∷ []) R-names ∷ MutRef (named 3) (ν-sets ∷ []) R-sets ∷ MutRef (named 4) (ν-fields ∷ []) R-fields ∷ ShrSlice (named 5) κ-log u8 ∷ MutSlice (named 6) κ-codes u32 ∷ MutRef (named 7) κ-count u64 ∷ []) (refAt b (o + 0) (h .words) δ-words, (refAt b (o + 2824) (h .descriptors) δ-descriptors, (refAt b (o + 3336) (h .names) δ-names, (refAt b (o + 3464) (h .sets) δ-sets, (refAt b (o + 3720) (h .fields) δ-fields, (record { ptr = (b-log, o-log); name = γ-log; now = x-log }, (record { ptr = (b-codes, o-codes); name = γ-codes; now = x-codes }, (record { ptr = (b-count, o-count); name = γ-count; now = x-count }, tt)))))))) (vptr b (o + 0) ∷ [], (vptr b (o + 2824) ∷ [], (vptr b (o + 3336) ∷ [], (vptr b (o + 3464) ∷ [], (vptr b (o + 3720) ∷ [], (sliceVal (b-log, o-log) (length x-log) ∷ [], (sliceVal (b-codes, o-codes) (length x-codes) ∷ [], (vptr b-count o-count ∷ [], tt)))))))))) ∷ [])) (Step 𝓤 H A at-mem run .pre (to-step ν-words ν-descriptors ν-names ν-sets ν-fields δ-words δ-descriptors δ-names δ-sets δ-fields))
+  goes-step ν-words ν-descriptors ν-names ν-sets ν-fields δ-words δ-descriptors δ-names δ-sets δ-fields = qed W (((‵ (flft (ν-words ∷ []) fullShare) ⊛ ‵ (flft (ν-descriptors ∷ []) fullShare) ⊛ ‵ (flft (ν-names ∷ []) fullShare) ⊛ ‵ (flft (ν-sets ∷ []) fullShare) ⊛ ‵ (flft (ν-fields ∷ []) fullShare) ⊛ ‵ (flft κ-log q-log) ⊛ ‵ (flft κ-codes q-codes) ⊛ ‵ (flft κ-count q-count) ⊛ ‵ ftrue) ⊛ ‵ (owns (MutRef (named 0) (ν-words ∷ []) R-words ∷ MutRef (named 1) (ν-descriptors ∷ []) R-descriptors ∷ MutRef (named 2) (ν-names ∷ []) R-names ∷ MutRef (named 3) (ν-sets ∷ []) R-sets ∷ MutRef (named 4) (ν-fields ∷ []) R-fields ∷ ShrSlice (named 5) κ-log u8 ∷ MutSlice (named 6) κ-codes u32 ∷ MutRef (named 7) κ-count u64 ∷ []) (refAt b (o + 0) (h .words) δ-words, (refAt b (o + 2824) (h .descriptors) δ-descriptors, (refAt b (o + 3336) (h .names) δ-names, (refAt b (o + 3464) (h .sets) δ-sets, (refAt b (o + 3720) (h .fields) δ-fields, (record { ptr = (b-log, o-log); name = γ-log; now = x-log }, (record { ptr = (b-codes, o-codes); name = γ-codes; now = x-codes }, (record { ptr = (b-count, o-count); name = γ-count; now = x-count }, tt)))))))) (vptr b (o + 0) ∷ [], (vptr b (o + 2824) ∷ [], (vptr b (o + 3336) ∷ [], (vptr b (o + 3464) ∷ [], (vptr b (o + 3720) ∷ [], (sliceVal (b-log, o-log) (length x-log) ∷ [], (sliceVal (b-codes, o-codes) (length x-codes) ∷ [], (vptr b-count o-count ∷ [], tt)))))))))) ∷ []) ∵ frame ! $ done !
 
   -- what the callee leaves, the struct after it, and what it says of them
   abbrev Lasts : Type 0
@@ -130,15 +130,15 @@ module _ {M : Type 1} (𝓤 : URA M) (H : Heap 𝓤) (A : Atoms 𝓤) (W : Given
         use1 W (‵ (partsAt fullShare ms 0 (T.the-type .to h) b o) ⊛ raw (Back 𝓤 H A W b o fullShare h)) (apart 𝓤 H A W b o fullShare h) $ split ! $
         lft-new ! tt (λ ν-words. lft-new ! tt (λ ν-descriptors. lft-new ! tt (λ ν-names. lft-new ! tt (λ ν-sets.
         lft-new ! tt (λ ν-fields. move ! (5 ∷ []) $ fsplit ! $
-        use1 W (LentMut 𝓤 R-words 0 ν-words (h .words) b (o + 0)) (lend-mut 𝓤 H A W u64 97 (h .words) b (o + 0) 0 ν-words) $ await ! tt $ pick ! (λ δ-words. split ! $
+        use1 W (LentMut 𝓤 R-words 0 ν-words (h .words) b (o + 0)) (lend-mut 𝓤 H A W u64 353 (h .words) b (o + 0) 0 ν-words) $ await ! tt $ pick ! (λ δ-words. split ! $
         move ! (2 ∷ []) $ fsplit ! $
-        use1 W (LentMut 𝓤 R-descriptors 1 ν-descriptors (h .descriptors) b (o + 776)) (lend-mut 𝓤 H A W u8 512 (h .descriptors) b (o + 776) 1 ν-descriptors) $ await ! tt $ pick ! (λ δ-descriptors. split ! $
+        use1 W (LentMut 𝓤 R-descriptors 1 ν-descriptors (h .descriptors) b (o + 2824)) (lend-mut 𝓤 H A W u8 512 (h .descriptors) b (o + 2824) 1 ν-descriptors) $ await ! tt $ pick ! (λ δ-descriptors. split ! $
         move ! (2 ∷ []) $ fsplit ! $
-        use1 W (LentMut 𝓤 R-names 2 ν-names (h .names) b (o + 1288)) (lend-mut 𝓤 H A W u8 128 (h .names) b (o + 1288) 2 ν-names) $ await ! tt $ pick ! (λ δ-names. split ! $
+        use1 W (LentMut 𝓤 R-names 2 ν-names (h .names) b (o + 3336)) (lend-mut 𝓤 H A W u8 128 (h .names) b (o + 3336) 2 ν-names) $ await ! tt $ pick ! (λ δ-names. split ! $
         move ! (2 ∷ []) $ fsplit ! $
-        use1 W (LentMut 𝓤 R-sets 3 ν-sets (h .sets) b (o + 1416)) (lend-mut 𝓤 H A W u64 32 (h .sets) b (o + 1416) 3 ν-sets) $ await ! tt $ pick ! (λ δ-sets. split ! $
+        use1 W (LentMut 𝓤 R-sets 3 ν-sets (h .sets) b (o + 3464)) (lend-mut 𝓤 H A W u64 32 (h .sets) b (o + 3464) 3 ν-sets) $ await ! tt $ pick ! (λ δ-sets. split ! $
         move ! (2 ∷ []) $ fsplit ! $
-        use1 W (LentMut 𝓤 R-fields 4 ν-fields (h .fields) b (o + 1672)) (lend-mut 𝓤 H A W u8 129 (h .fields) b (o + 1672) 4 ν-fields) $ await ! tt $ pick ! (λ δ-fields. split ! $
+        use1 W (LentMut 𝓤 R-fields 4 ν-fields (h .fields) b (o + 3720)) (lend-mut 𝓤 H A W u8 129 (h .fields) b (o + 3720) 4 ν-fields) $ await ! tt $ pick ! (λ δ-fields. split ! $
         -- what the callee asks is put together, and it is called
         move ! (0 ∷ 24 ∷ []) $ fjoin ! $ move ! (3 ∷ 0 ∷ []) $ fjoin ! $ move ! (4 ∷ 0 ∷ []) $ fjoin ! $ move ! (5 ∷ 0 ∷ []) $
         fjoin ! $ move ! (6 ∷ 0 ∷ []) $ fjoin ! $ nothing ! $ move ! (17 ∷ 0 ∷ []) $ join ! $ move ! (18 ∷ 0 ∷ []) $ join ! $
@@ -158,15 +158,15 @@ module _ {M : Type 1} (𝓤 : URA M) (H : Heap 𝓤) (A : Atoms 𝓤) (W : Given
         move ! (1 ∷ []) $ split ! $ move ! (1 ∷ []) $ split ! $ move ! (1 ∷ []) $ split ! $ move ! (1 ∷ []) $ split ! $
         move ! (1 ∷ []) $ split ! $ move ! (1 ∷ []) $ split ! $ move ! (1 ∷ []) $ split ! $ move ! (1 ∷ []) $ split ! $
         move ! (8 ∷ 25 ∷ 18 ∷ []) $
-        lft-end ! tt $ use3 W (later (‵ (memberAt u64 97 fullShare (zs .0) b (o + 0)))) (back-mut 𝓤 H A W u64 97 (zs .0) b (o + 0) ν-words δ-words) $ await ! tt $
+        lft-end ! tt $ use3 W (later (‵ (memberAt u64 353 fullShare (zs .0) b (o + 0)))) (back-mut 𝓤 H A W u64 353 (zs .0) b (o + 0) ν-words δ-words) $ await ! tt $
         move ! (8 ∷ 23 ∷ 17 ∷ []) $
-        lft-end ! tt $ use3 W (later (‵ (memberAt u8 512 fullShare (zs .1 .0) b (o + 776)))) (back-mut 𝓤 H A W u8 512 (zs .1 .0) b (o + 776) ν-descriptors δ-descriptors) $ await ! tt $
+        lft-end ! tt $ use3 W (later (‵ (memberAt u8 512 fullShare (zs .1 .0) b (o + 2824)))) (back-mut 𝓤 H A W u8 512 (zs .1 .0) b (o + 2824) ν-descriptors δ-descriptors) $ await ! tt $
         move ! (8 ∷ 21 ∷ 16 ∷ []) $
-        lft-end ! tt $ use3 W (later (‵ (memberAt u8 128 fullShare (zs .1 .1 .0) b (o + 1288)))) (back-mut 𝓤 H A W u8 128 (zs .1 .1 .0) b (o + 1288) ν-names δ-names) $ await ! tt $
+        lft-end ! tt $ use3 W (later (‵ (memberAt u8 128 fullShare (zs .1 .1 .0) b (o + 3336)))) (back-mut 𝓤 H A W u8 128 (zs .1 .1 .0) b (o + 3336) ν-names δ-names) $ await ! tt $
         move ! (8 ∷ 19 ∷ 15 ∷ []) $
-        lft-end ! tt $ use3 W (later (‵ (memberAt u64 32 fullShare (zs .1 .1 .1 .0) b (o + 1416)))) (back-mut 𝓤 H A W u64 32 (zs .1 .1 .1 .0) b (o + 1416) ν-sets δ-sets) $ await ! tt $
+        lft-end ! tt $ use3 W (later (‵ (memberAt u64 32 fullShare (zs .1 .1 .1 .0) b (o + 3464)))) (back-mut 𝓤 H A W u64 32 (zs .1 .1 .1 .0) b (o + 3464) ν-sets δ-sets) $ await ! tt $
         move ! (8 ∷ 16 ∷ 14 ∷ []) $
-        lft-end ! tt $ use3 W (later (‵ (memberAt u8 129 fullShare (zs .1 .1 .1 .1 .0) b (o + 1672)))) (back-mut 𝓤 H A W u8 129 (zs .1 .1 .1 .1 .0) b (o + 1672) ν-fields δ-fields) $ await ! tt $
+        lft-end ! tt $ use3 W (later (‵ (memberAt u8 129 fullShare (zs .1 .1 .1 .1 .0) b (o + 3720)))) (back-mut 𝓤 H A W u8 129 (zs .1 .1 .1 .1 .0) b (o + 3720) ν-fields δ-fields) $ await ! tt $
         -- the struct is put together, and the borrow is closed
         nothing ! $ move ! (1 ∷ 0 ∷ []) $ fjoin ! $ move ! (1 ∷ 0 ∷ []) $ fjoin ! $ move ! (1 ∷ 0 ∷ []) $ fjoin ! $
         move ! (1 ∷ 0 ∷ []) $ fjoin ! $ move ! (1 ∷ 0 ∷ []) $ fjoin ! $ move ! (0 ∷ 12 ∷ []) $
