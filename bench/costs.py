@@ -3,11 +3,11 @@
 from typing import Dict, List, NamedTuple, Tuple
 
 from bench.counting import row, rule_of, say
-from bench.logcases import CONFINING, DIVERTED, INHIBITED, PARTED, PARTED_DIVERTED
+from bench.logcases import CONFINING, DIVERTED, INHIBITED, MAPPINGS, PARTED, PARTED_DIVERTED
 from bench.logcases import PARTED_INHIBITED, PLACES, RULE_TABLES, SEEDS, LogCase
 from bench.logcases import call_cases, growing_log, other_cases, write_case
 from bench.programs import Pair, both, costs, log_cost
-from bench.states import D_FIRST, GIVER, KIND_NAMES, N_FIRST, link_of_chain
+from bench.states import D_FIRST, GIVER, KIND_NAMES, N_FIRST, link_of_chain, mapped_only
 from model.limits import FILES, PROCESSES, Kind, process_container
 from model.records import Call, encode
 
@@ -24,6 +24,7 @@ class Costs(NamedTuple):
     """Instructions of single records."""
 
     calls: Dict[Tuple[str, int, int], Pair]  # by state, number of rules and kind
+    mappings: Dict[str, Pair]  # calls on mappings, by name
     judging: Dict[Tuple[str, str], Pair]  # a write with 32 rules, by state and table of rules
     others: Dict[Tuple[str, str], Pair]  # by state and name
     writes: Dict[str, Pair]  # the write of the stopped ones, with no rules
@@ -35,6 +36,7 @@ class Costs(NamedTuple):
             f"{KIND_NAMES[kind]}, {state} state, {rules} rules": pair
             for (state, rules, kind), pair in self.calls.items()
         }
+        named.update({f"{name}, small state": pair for name, pair in self.mappings.items()})
         for (state, name), pair in self.others.items():
             named[f"{name}, {state} state"] = pair
         for (state, name), pair in self.judging.items():
@@ -85,10 +87,20 @@ def table_cases(size: int) -> Dict[str, LogCase]:
     }
 
 
+def mapped_cases(size: int) -> Dict[str, LogCase]:
+    """Records of a process that maps so many files both ways, with no descriptor and no name."""
+    before = [Call(Kind.START, 0), Call(Kind.LABEL, 0, process_container(0), 0)]
+    for file in FILES[:size]:
+        before += mapped_only(0, file, Kind.MAP_BOTH)
+    measured = {"fork": Call(Kind.FORK, 0, 1), "exit": Call(Kind.EXIT, 0)}
+    return {name: LogCase([], before, encode(call), "allow") for name, call in measured.items()}
+
+
 GROWING = {
     "Live processes": (crowd_cases, (1, 2, 4, 8, 16)),
     "Links of a chain": (chain_cases, (0, 2, 4, 8, 16, 30)),
     "Rules": (table_cases, (0, 1, 2, 4, 8, 16, 32)),
+    "Files mapped": (mapped_cases, (0, 1, 2, 4, 8, 16, 32)),
 }
 LOG_LENGTH = "Records of a log"
 LENGTHS = (500, 1000, 2000, 4000)
@@ -112,12 +124,14 @@ def measured_growth() -> Dict[str, Dict[Tuple[str, int], Pair]]:
 
 def measured_costs() -> Costs:
     """Measure everything about single records; some minutes."""
-    found = Costs({}, {}, {}, {}, {})
+    found = Costs({}, {}, {}, {}, {}, {})
     for kind, name in KIND_NAMES.items():
         for state in STATES:
             for rules in ([], CONFINING):
                 found.calls[state, len(rules), kind] = costs(call_cases(rules, state, kind))
         say(f"measured {name} in both programs")
+    found.mappings.update({name: costs([case]) for name, case in MAPPINGS.items()})
+    say("measured mappings")
     for state, places in PLACES.items():
         for table, rules in RULE_TABLES.items():
             found.judging[state, table] = costs(call_cases(rules, state, Kind.WRITE))
@@ -141,6 +155,12 @@ def call_table(found: Costs, state: str) -> List[str]:
         cells = [cell for rules in RULE_COUNTS for cell in found.calls[state, rules, kind].cells]
         lines.append(row(kind, name, *cells))
     return lines
+
+
+def mapping_table(found: Costs) -> List[str]:
+    """A row for each call on mappings."""
+    lines = [row("Call", *PAIR), rule_of("lrrr")]
+    return lines + [row(name, *pair.cells) for name, pair in found.mappings.items()]
 
 
 def less(one: Pair, other: Pair, times: int = 1) -> Pair:

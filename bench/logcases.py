@@ -9,10 +9,11 @@ import functools
 from typing import Dict, List, NamedTuple
 
 from bench.states import D_LAST, FILLER, FIRST, FREE, GIVER, HIDDEN, KIND_NAMES, N_LAST, Case
-from bench.states import small_cases, small_laden_cases, worst_cases, worst_laden_cases
+from bench.states import mapping_cases, small_cases, small_laden_cases, worst_cases
+from bench.states import worst_laden_cases
 from model.generate import MIXES
-from model.limits import CALL_TAG, CONTAINERS, DEVICES, DIVERT_ACTION, FILES, ITEMS, PROCESSES
-from model.limits import RULE_LIMIT, Kind, Refusal, process_container
+from model.limits import CALL_TAG, CONTAINERS, COUNT_LIMIT, DEVICES, DIVERT_ACTION, FILES, ITEMS
+from model.limits import PROCESSES, RULE_LIMIT, Kind, Refusal, process_container
 from model.records import Call, Rule, confine, encode, forbid, frame_bytes, separate
 from tests.logtests.compare import model_lines
 from tests.logtests.randomlogs import LogGenerator
@@ -59,6 +60,12 @@ def call_cases(rules: List[Rule], state: str, kind: int) -> List[LogCase]:
     """A kind of call that is allowed, at the places where it may cost most."""
     cases = CASES[state][kind]
     return [LogCase(rules, case.before, encode(case.call), "allow") for case in cases]
+
+
+MAPPINGS: Dict[str, LogCase] = {
+    name: LogCase([], case.before, encode(case.call), "allow")
+    for name, case in mapping_cases().items()
+}
 
 
 # Writes that a rule stops, rules, and refusals.
@@ -170,6 +177,8 @@ def refused_cases(place: Place) -> Dict[str, LogCase]:
     read = Call(Kind.READ, process, descriptor)
     opening = Call(Kind.OPEN, process, place.name, descriptor)
     device = [*free, Call(Kind.DEVICE, process, descriptor, DEVICES[0])]
+    mapping = Call(Kind.MAP_READ, process, descriptor)
+    mapped = [*device, *COUNT_LIMIT * [mapping]]
     listed = [
         ("header cut short", [], bytes([CALL_TAG, 0]), Refusal.CUT_SHORT),
         ("unknown tag", [], frame_bytes(0, b""), Refusal.UNKNOWN_TAG),
@@ -184,6 +193,7 @@ def refused_cases(place: Place) -> Dict[str, LogCase]:
         ("unmap, no link", [], encode(Call(Kind.UNMAP, process, FREE)), Refusal.NO_LINK),
         ("rule, items equal", [], encode(separate(1, 1)), Refusal.SAME_TWICE),
         ("truncate of a device", device, encode(truncate), Refusal.NO_FILE),
+        ("map read, count at 255", mapped, encode(mapping), Refusal.COUNT_FULL),
     ]
     return {
         name: refusing(CONFINING, [*place.before, *calls], record, number)

@@ -3,7 +3,7 @@
 from typing import Dict, List, NamedTuple, Tuple
 
 from bench.costs import STATES, Costs, call_table, growth_lines, judging_table, judgings
-from bench.costs import measured_costs, other_table, stopped_text
+from bench.costs import mapping_table, measured_costs, other_table, stopped_text
 from bench.counting import Report, prose, row, rule_of, say
 from bench.machine import Machine, box_table, box_text, measured_machine, own_heap, own_stack
 from bench.machine import size_table, wall_table
@@ -132,6 +132,10 @@ def record_lines(figures: Figures) -> List[str]:
         lines += [*call_table(figures.costs, state), ""]
     return [
         *lines,
+        "Mappings of one file, small state, 0 rules:",
+        "",
+        *mapping_table(figures.costs),
+        "",
         "What 32 rules add to a write, by the rules' tags:",
         "",
         *judging_table(figures.costs),

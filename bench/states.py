@@ -7,7 +7,8 @@ at its end. The tracker only moves items: no branch goes by them.
 
 from typing import Dict, List, NamedTuple
 
-from model.limits import DESCRIPTORS, DEVICES, FILES, NAMES, PROCESSES, Kind, process_container
+from model.limits import COUNT_LIMIT, DESCRIPTORS, DEVICES, FILES, NAMES, PROCESSES, Kind, MapSort
+from model.limits import process_container
 from model.records import Call
 
 KIND_NAMES = {
@@ -58,7 +59,7 @@ def small_cases() -> Dict[int, Case]:
         Call(Kind.TRUNCATE, 0, 0),
         Call(Kind.MAP_READ, 0, 0),
         Call(Kind.MAP_BOTH, 0, 0),
-        Call(Kind.UNMAP, 0, 24),
+        Call(Kind.UNMAP, 0, 24, MapSort.MAPPED_READ),
         Call(Kind.UNLINK, 0, 0),
         Call(Kind.RENAME, 0, 0, 1),
         Call(Kind.LINK, 0, 0, 1),
@@ -84,6 +85,27 @@ def small_laden_cases() -> Dict[int, Case]:
         Case(base, Call(Kind.LABEL, 0, 24, 0)),
     ]
     return {case.call.kind: case for case in cases}
+
+
+def mapping_cases() -> Dict[str, Case]:
+    """Calls on the mappings of a file in the small state, by those that are there."""
+    base = [Call(Kind.START, 0), Call(Kind.CREATE, 0, 0, 0, 24)]
+    read, both = Call(Kind.MAP_READ, 0, 0), Call(Kind.MAP_BOTH, 0, 0)
+    end_read, end_both = (Call(Kind.UNMAP, 0, 24, sort) for sort in MapSort)
+    listed = [
+        ("map read, the first", [], read),
+        ("map read, the second", [read], read),
+        ("map read, the last that is allowed", (COUNT_LIMIT - 1) * [read], read),
+        ("map both, the first", [], both),
+        ("map both, the second", [both], both),
+        ("map both, mapped to read before", [read], both),
+        ("unmap to read, one left", [read, read], end_read),
+        ("unmap to read, the last", [read], end_read),
+        ("unmap both ways, one left", [both, both], end_both),
+        ("unmap both ways, the last", [both], end_both),
+        ("unmap both ways, the last, one to read left", [read, both], end_both),
+    ]
+    return {name: Case([*base, *mapped], call) for name, mapped, call in listed}
 
 
 # The worst state. FIRST is a file that feeds process 15 alone, and so is HIDDEN, which has no name
@@ -198,7 +220,7 @@ def worst_cases() -> Dict[int, Case]:
         Case(full, Call(Kind.TRUNCATE, GIVER, D_FIRST)),
         Case(full, Call(Kind.MAP_READ, GIVER, D_FIRST)),
         Case(full, Call(Kind.MAP_BOTH, GIVER, D_FIRST)),
-        Case(full, Call(Kind.UNMAP, GIVER, HIDDEN)),
+        Case(full, Call(Kind.UNMAP, GIVER, HIDDEN, MapSort.MAPPED_READ)),
         Case(full + named_only, Call(Kind.UNLINK, GIVER, N_LAST)),
         Case(full + named_only, Call(Kind.RENAME, GIVER, N_OTHER, N_LAST)),
         Case(full + unbound, Call(Kind.LINK, GIVER, N_FILLER, N_LAST)),

@@ -4,7 +4,7 @@
  * crates/hook/src/. What each promises is said here in words. Nothing is allocated and nothing is kept between calls: all state lies in
  * a `struct pomtvia_monitor` that the caller owns.
  *
- * Answers and states are those of document 01, with Papers 1 to 3 of document 02, for every monitor in which no loaded rule is broken;
+ * Answers and states are those of document 01, with Papers 1 to 4 of document 02, for every monitor in which no loaded rule is broken;
  * pomtvia_new makes such a one, and every function leaves it so. Any other bytes are safe too: every function ends and stays within its
  * memory, refusals are right, and a refused or inhibited call leaves every byte of every field as it was.
  *
@@ -38,6 +38,7 @@ extern "C" {
 #define POMTVIA_NAMES 128         /* file names are 0 to 127 */
 #define POMTVIA_DESCRIPTORS 32    /* 0 to 31 in each process */
 #define POMTVIA_RULES 32          /* rule numbers are 0 to 31 */
+#define POMTVIA_MAPPINGS 255      /* the most mappings of each sort that a process has of a container */
 
 #define POMTVIA_NETWORK 0
 #define POMTVIA_PANEL 1
@@ -69,13 +70,22 @@ enum pomtvia_kind {
     POMTVIA_TRUNCATE = 10,
     POMTVIA_MAP_READ = 11,
     POMTVIA_MAP_BOTH = 12,
-    POMTVIA_UNMAP = 13,
+    POMTVIA_UNMAP = 13, /* field a: a container; field b: the sort of mapping that loses one, an enum pomtvia_sort */
     POMTVIA_UNLINK = 14,
     POMTVIA_RENAME = 15,
     POMTVIA_LINK = 16,
     POMTVIA_FORK = 17,
     POMTVIA_EXIT = 18,
     POMTVIA_LABEL = 19
+};
+
+/* The sorts of mapping (document 02, Paper 4). A process has two counts of mappings with each container: POMTVIA_MAP_READ raises the first,
+ * POMTVIA_MAP_BOTH the second alone, and POMTVIA_UNMAP lowers the one that it names. What comes to the container comes to the process while
+ * either count is above 0, and what comes to the process comes to the container while the second is. A fork copies the counts, an exit
+ * clears them. */
+enum pomtvia_sort {
+    POMTVIA_MAPPED_READ = 0, /* for reading */
+    POMTVIA_MAPPED_BOTH = 1  /* both ways */
 };
 
 /* ---- answers (document 01, What a record gets) */
@@ -94,7 +104,8 @@ enum pomtvia_word {
 };
 
 /* The tests of a record are tried in the order of this list, and the first that applies is the answer: the earliest place decides, not the
- * lowest number. 14 to 16 stand in 8's place (document 02, Paper 2). POMTVIA_SLICE_SHORT is for queries and pomtvia_run. */
+ * lowest number. 14 to 16 stand in 8's place (document 02, Paper 2), and 17 after 10 (Paper 4). POMTVIA_SLICE_SHORT is for queries and
+ * pomtvia_run. */
 enum pomtvia_refusal {
     POMTVIA_CUT_SHORT = 1,
     POMTVIA_UNKNOWN_TAG = 2,
@@ -106,32 +117,33 @@ enum pomtvia_refusal {
     POMTVIA_MISSING = 8,            /* a label's container is not in use */
     POMTVIA_DESCRIPTOR_CLOSED = 14, /* field a of dup, close, read, write, truncate, map read, map both */
     POMTVIA_NAME_UNBOUND = 15,      /* field a of open, unlink, rename, link */
-    POMTVIA_NO_LINK = 16,           /* between the process and the container to unmap */
+    POMTVIA_NO_LINK = 16,           /* the process has no mapping of the container to unmap, of the sort that field b names */
     POMTVIA_SAME_TWICE = 9,
     POMTVIA_NO_FILE = 10,
+    POMTVIA_COUNT_FULL = 17,        /* the count that a map read or map both would raise is at 255 */
     POMTVIA_RULES_FULL = 11,
     POMTVIA_BROKEN_ALREADY = 12,
     POMTVIA_SLICE_SHORT = 13
 };
 
-/* ---- the state: which items lie where, links, descriptors, names, rules. Its fields are the library's own. The 7
+/* ---- the state: which items lie where, mappings, descriptors, names, rules. Its fields are the library's own. The 7
  * bytes behind the last field stand for nothing and may change. */
 
 struct pomtvia_monitor {
-    uint64_t words[97];
+    uint64_t words[353];
     uint8_t descriptors[512];
     uint8_t names[128];
     uint64_t sets[32];
     uint8_t fields[129];
 };
 
-#define POMTVIA_MONITOR_BYTES 1808
-POMTVIA_STATIC_ASSERT(sizeof(struct pomtvia_monitor) == POMTVIA_MONITOR_BYTES, "the library's Monitor has 1,808 bytes");
+#define POMTVIA_MONITOR_BYTES 3856
+POMTVIA_STATIC_ASSERT(sizeof(struct pomtvia_monitor) == POMTVIA_MONITOR_BYTES, "the library's Monitor has 3,856 bytes");
 POMTVIA_STATIC_ASSERT(offsetof(struct pomtvia_monitor, words) == 0, "the words stand first");
-POMTVIA_STATIC_ASSERT(offsetof(struct pomtvia_monitor, descriptors) == 776, "descriptors are behind 97 words");
-POMTVIA_STATIC_ASSERT(offsetof(struct pomtvia_monitor, names) == 1288, "names are behind 512 descriptors");
-POMTVIA_STATIC_ASSERT(offsetof(struct pomtvia_monitor, sets) == 1416, "the rules' sets are behind the tracker's 1,416 bytes");
-POMTVIA_STATIC_ASSERT(offsetof(struct pomtvia_monitor, fields) == 1672, "the rules' fields stand last");
+POMTVIA_STATIC_ASSERT(offsetof(struct pomtvia_monitor, descriptors) == 2824, "descriptors are behind 353 words");
+POMTVIA_STATIC_ASSERT(offsetof(struct pomtvia_monitor, names) == 3336, "names are behind 512 descriptors");
+POMTVIA_STATIC_ASSERT(offsetof(struct pomtvia_monitor, sets) == 3464, "the rules' sets are behind the tracker's 3,464 bytes");
+POMTVIA_STATIC_ASSERT(offsetof(struct pomtvia_monitor, fields) == 3720, "the rules' fields stand last");
 
 /* ---- functions on a monitor */
 

@@ -1,13 +1,18 @@
 """The contents machine and the two runs of demand 3.
 
-Document 01, The contents in demand 3. The machine takes links, reach, use and
-verdicts from the tracker's states and decides by itself what moves.
+Document 01, The contents in demand 3. The machine takes live processes, names,
+descriptors and verdicts from the tracker's states. It counts mappings by itself, so
+that bytes pass over the links of document 02, Paper 4, whatever the tracker makes of
+them, and it decides by itself what moves.
 """
 
 import hashlib
+from collections import Counter
+from dataclasses import replace
 from typing import Any, Callable, Dict, Iterable, List, NamedTuple, Optional, Set, Tuple, Union
 
-from model.limits import CALL_TAG, CONTAINERS, FILES, VALUE_LENGTHS, Kind, process_container
+from model.limits import CALL_TAG, CONTAINERS, FILES, VALUE_LENGTHS, Kind, MapSort
+from model.limits import process_container
 from model.records import Call, decode_call, read_frame
 from model.tracker import Answer, State, Tracker, forbids
 
@@ -107,25 +112,31 @@ class Machine:
         self.functions = functions
         self.source = source  # place and item of a label to its input
         self.contents: Dict[int, Any] = dict.fromkeys(CONTAINERS, functions.zero)
+        self.mappings: Counter = Counter()  # by process, container and sort
 
     def step(self, place: int, step: Step) -> Optional[Answer]:
         """Do one step; gives the answer of a record."""
         if isinstance(step, MemoryStep):
             self._memory(place, step)
             return None
-        before = self.tracker.state
+        before = self.state()
         answer, _ = self.tracker.answer_record(step.data)
         call = call_of(step)
         if call is not None and answer.word in ("allow", "modify"):
             self._give(place, call, answer, before)
             self._fork(place, call)
-            for container in cleared(call, before, self.tracker.state):
+            self.mappings = mapped_after(self.mappings, call, before)
+            for container in cleared(call, before, self.state()):
                 self.contents[container] = self.functions.zero
         return answer
 
+    def state(self) -> State:
+        """The tracker's state, with the mappings as they are counted here."""
+        return replace(self.tracker.state, mappings=dict(self.mappings))
+
     def _memory(self, place: int, step: MemoryStep) -> None:
         old = dict(self.contents)
-        links = sorted(self.tracker.state.links)
+        links = sorted(self.state().links)
         for container in step.containers:
             feeders = [(source, old[source]) for source, target in links if target == container]
             self.contents[container] = self.functions.memory(
@@ -156,6 +167,22 @@ def call_of(step: Step) -> Optional[Call]:
     if frame is None or frame.tag != CALL_TAG or len(frame.value) != VALUE_LENGTHS[CALL_TAG]:
         return None
     return decode_call(frame.value)
+
+
+def mapped_after(mappings: Counter, call: Call, before: State) -> Counter:
+    """The counts of mappings after a call that is done: document 02, Paper 4."""
+    own = {key: count for key, count in mappings.items() if key[0] == call.process}
+    if call.kind == Kind.FORK:
+        child = {(call.a, container, sort): count for (_, container, sort), count in own.items()}
+        return Counter({**mappings, **child})
+    if call.kind == Kind.EXIT:
+        return mappings - Counter(own)
+    if call.kind == Kind.UNMAP:
+        return mappings - Counter([(call.process, call.a, call.b)])
+    if call.kind not in (Kind.MAP_READ, Kind.MAP_BOTH):
+        return mappings
+    sort = MapSort.MAPPED_BOTH if call.kind == Kind.MAP_BOTH else MapSort.MAPPED_READ
+    return mappings + Counter([(call.process, before.descriptors[call.process, call.a], sort)])
 
 
 def gifts(call: Call, answer: Answer, before: State) -> List[Tuple[Optional[int], int]]:

@@ -3,11 +3,12 @@
 from typing import Optional
 
 from model.choices import Choices
-from model.limits import ACTIONS, CALL_TAG, CONFINE_TAG, CONTAINERS, DEVICES, FORBID_TAG, ITEMS
-from model.limits import KINDS, PROCESSES, RULE_LIMIT, SEPARATE_TAG, VALUE_LENGTHS, Kind
+from model.limits import ACTIONS, CALL_TAG, CONFINE_TAG, CONTAINERS, COUNT_LIMIT, DEVICES
+from model.limits import FORBID_TAG, ITEMS, KINDS, MAP_SORTS, PROCESSES, RULE_LIMIT, SEPARATE_TAG
+from model.limits import VALUE_LENGTHS, Kind
 from model.proposals import ROLES, Proposer
 from model.records import CALL_FIELDS, Call, Rule, encode, frame_bytes, separate
-from model.tracker import FIELD_RANGES, LACKED, NEEDED_THINGS, is_there
+from model.tracker import FIELD_RANGES, LACKED, MAPPED_SORTS, MAPPING, NEEDED_THINGS, is_there
 
 # Tags beside the known ones, those of later papers first.
 OTHER_TAGS = [*range(0x14, 0x1C), 0x00, 0x01, 0x0F, 0x1C, 0x20, 0x7F, 0x80, 0x90, 0xFF]
@@ -24,7 +25,8 @@ class FaultMaker:
             (self.unknown_tag, 2),
             (self.wrong_length, 2),
             (self.unknown_kind, 1),
-            (self.flawed_call, 14),
+            (self.flawed_call, 12),
+            (self.mapped_too_often, 2),
             (self.missing, 2),
             (self.taken_and_missing, 2),
             (self.same_twice, 2),
@@ -66,6 +68,8 @@ class FaultMaker:
     def missing(self) -> Optional[bytes]:
         """A call that fits but for field a, which names something that is not there."""
         thing = self.choices.pick(list(LACKED))
+        if thing == MAPPING:
+            return self.unmapped()
         kind = self.choices.pick([k for k, needed in NEEDED_THINGS.items() if needed == thing])
         callers = self.proposer.fitting(ROLES[kind][0], 0)
         if not callers:
@@ -77,6 +81,32 @@ class FaultMaker:
         if not absent or not others:
             return None
         return encode(call._replace(a=self.choices.pick(absent), b=self.choices.near(others)))
+
+    def unmapped(self) -> Optional[bytes]:
+        """An unmap of a sort that the process does not map, of the container or of any."""
+        sort = self.choices.pick(MAP_SORTS)
+        state, live = self.proposer.state, self.proposer.live()
+        if not live:
+            return None
+        process = self.choices.pick(live)
+        absent = [c for c in CONTAINERS if not state.count(process, c, sort)]
+        mapped = [c for c in self.proposer.mapped(process) if c in absent]
+        container = self.choices.pick(mapped if mapped and self.choices.chance(0.6) else absent)
+        return encode(Call(Kind.UNMAP, process, container, sort))
+
+    def mapped_too_often(self) -> Optional[bytes]:
+        """A mapping whose count is at its limit, now and then with a field that is not used."""
+        state = self.proposer.state
+        full = [
+            Call(kind, process, descriptor)
+            for (process, descriptor), container in sorted(state.descriptors.items())
+            for kind, sort in MAPPED_SORTS.items()
+            if state.count(process, container, sort) == COUNT_LIMIT
+        ]
+        if not full:
+            return None
+        unused = self.choices.pick(EDGES) if self.choices.chance(0.2) else 0
+        return encode(self.choices.pick(full)._replace(c=unused))
 
     def taken_and_missing(self) -> Optional[bytes]:
         """A call whose field a is missing and whose field b is taken."""

@@ -1,6 +1,7 @@
 """Random logs and step lists that follow the state they lead to.
 
-The same seed, number and mix give the same log.
+The same seed, number and mix give the same log. In a long log one count of mappings climbs
+to its limit.
 """
 
 from typing import List, NamedTuple, Optional
@@ -9,7 +10,7 @@ from model.choices import Choices
 from model.contents import MemoryStep, RecordStep, Step
 from model.faults import FaultMaker
 from model.limits import CONTAINERS, Kind
-from model.plans import Planner
+from model.plans import Climber, Planner
 from model.proposals import Proposer
 from model.records import encode
 from model.tracker import Tracker
@@ -38,6 +39,10 @@ KIND_WEIGHTS = [
 ]
 
 
+LONG_LOG = 400  # records or steps from which on a count of mappings climbs to its limit
+CLIMBS = 0.96  # how often the next record is one of the climb, while there is one
+
+
 class Mix(NamedTuple):
     """How often each sort of record comes, and how often a log ends cut short."""
 
@@ -61,13 +66,14 @@ MIXES = {
 class Generator:
     """Makes one record after the other and keeps the state they lead to."""
 
-    def __init__(self, seed: int, mix: str) -> None:
+    def __init__(self, seed: int, mix: str, length: int = 0) -> None:
         self.mix = MIXES[mix]
         self.choices = Choices(seed)
         self.tracker = Tracker()
         self.proposer = Proposer(self.choices, self.tracker)
         self.planner = Planner(self.choices, self.proposer)
         self.faults = FaultMaker(self.choices, self.proposer)
+        self.climber = Climber(self.choices, self.proposer) if length >= LONG_LOG else None
         self.planned: List[bytes] = []
 
     def record(self) -> bytes:
@@ -83,6 +89,11 @@ class Generator:
         return self.faults.cut(self._sound_record())
 
     def _proposal(self) -> Optional[bytes]:
+        climb = self.climber.calls() if self.climber and self.choices.chance(CLIMBS) else []
+        if climb:
+            first, *rest = map(encode, climb)
+            self.planned[:0] = rest
+            return first
         if self.planned and self.choices.chance(0.85):
             return self.planned.pop(0)
         sort = self.choices.weighted(list(zip(Mix._fields[:-1], self.mix)))
@@ -109,7 +120,7 @@ class Generator:
 
 def generate_records(seed: int, count: int, mix: str) -> List[bytes]:
     """The records of a random log; the last may be cut short."""
-    generator = Generator(seed, mix)
+    generator = Generator(seed, mix, count)
     records = [generator.record() for _ in range(count)]
     if records and generator.choices.chance(generator.mix.cut):
         records[-1] = generator.cut_record()
@@ -118,7 +129,7 @@ def generate_records(seed: int, count: int, mix: str) -> List[bytes]:
 
 def generate_steps(seed: int, count: int, mix: str) -> List[Step]:
     """A random list of records and memory steps over several logs."""
-    generator = Generator(seed, mix)
+    generator = Generator(seed, mix, count)
     choices = generator.choices
     steps: List[Step] = []
     while len(steps) < count:

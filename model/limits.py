@@ -22,6 +22,7 @@ NAMES = range(0, 128)
 DESCRIPTORS = range(0, 32)
 RULE_LIMIT = 32
 LOG_LIMIT = 65536
+COUNT_LIMIT = 255  # mappings of one sort that a process has of a container: document 02, Paper 4
 
 # Document 01, The records: tags and the length of each tag's value.
 CALL_TAG = 0x10
@@ -59,6 +60,19 @@ class Kind(Number):
 
 KINDS = range(min(Kind), max(Kind) + 1)
 
+
+class MapSort(Number):
+    """The sorts of mapping, each with a count of its own: document 02, Paper 4.
+
+    Unmap's field b names the sort that loses one.
+    """
+
+    MAPPED_READ = 0
+    MAPPED_BOTH = 1
+
+
+MAP_SORTS = range(min(MapSort), max(MapSort) + 1)
+
 # Rule actions.
 INHIBIT_ACTION = 0
 DIVERT_ACTION = 1
@@ -70,6 +84,7 @@ class Refusal(Number):
 
     Document 02, Paper 2: the earliest place decides, not the lowest number. So the order here is
     that of the tests. 14, 15 and 16 stand in 8's place, and no record meets two of these four.
+    Paper 4: 17 comes after 10.
     """
 
     CUT_SHORT = 1
@@ -82,9 +97,10 @@ class Refusal(Number):
     MISSING = 8  # the container to label is not in use
     DESCRIPTOR_CLOSED = 14
     NAME_UNBOUND = 15
-    NO_LINK = 16  # to unmap
+    NO_LINK = 16  # to unmap: no mapping of the sort that field b names
     SAME_TWICE = 9
     NO_FILE = 10
+    COUNT_FULL = 17
     RULES_FULL = 11
     BROKEN_ALREADY = 12
     SLICE_SHORT = 13

@@ -9,7 +9,7 @@ import re
 from typing import Callable, Dict, Iterable, List, NamedTuple, Optional, Tuple
 
 from model import limits
-from model.limits import CALL_TAG, CONFINE_TAG, FORBID_TAG, SEPARATE_TAG, Kind, Refusal
+from model.limits import CALL_TAG, CONFINE_TAG, FORBID_TAG, SEPARATE_TAG, Kind, MapSort, Refusal
 from model.records import frame_bytes, read_frame
 
 BYTE = range(0, 256)
@@ -18,7 +18,7 @@ EMPTY_SET = "none"
 SHOWN = 60  # characters of a word in a message
 
 # The bench's words, in the order of the tests: document 01, the table of refusals; document 02,
-# Paper 2, for 14 to 16.
+# Paper 2, for 14 to 16, and Paper 4 for 17.
 REFUSAL_WORDS = {
     Refusal.CUT_SHORT: "cut short",
     Refusal.UNKNOWN_TAG: "unknown tag",
@@ -33,6 +33,7 @@ REFUSAL_WORDS = {
     Refusal.NO_LINK: "no link to unmap",
     Refusal.SAME_TWICE: "same twice",
     Refusal.NO_FILE: "no file",
+    Refusal.COUNT_FULL: "count at 255",
     Refusal.RULES_FULL: "rules full",
     Refusal.BROKEN_ALREADY: "broken already",
 }
@@ -86,6 +87,7 @@ class Part(NamedTuple):
     size: int
     read: Callable[[str, str], bytes]  # from the key and the rest of the word
     write: Callable[[bytes], str]
+    meaning: str = ""  # what is said where it is left out
 
 
 class Form(NamedTuple):
@@ -214,6 +216,23 @@ def action_part() -> Part:
     return Part((inhibit, divert), f"({inhibit} | {divert}CONTAINER)", 2, read, write)
 
 
+def sort_part() -> Part:
+    """The sort of mapping that an unmap ends: a word, or the number of an unknown one."""
+    key = "sort="
+    words = Names({"read": MapSort.MAPPED_READ, "both": MapSort.MAPPED_BOTH}, "")
+
+    def read(word: str, text: str) -> bytes:
+        return bytes([words.numbers[word] if word != key else read_number(key + text, text)])
+
+    def write(data: bytes) -> str:
+        word = words.word(data[0])
+        return word if word in words.numbers else key + word
+
+    keys = (key, *words.numbers)
+    shape = f"({' | '.join(words.numbers)} | {key}SORT)"
+    return Part(keys, shape, 1, read, write, ", the sort of mapping that ends")
+
+
 def unused_part() -> Part:
     """A byte that must be 0 and is not said."""
 
@@ -241,6 +260,7 @@ ITEM_PAIR = pair_part("items=", "ITEM")
 PROCESS = number_part("", "PROCESS")
 CHILD = number_part("child=", "PROCESS")
 UNUSED = unused_part()
+SORT = sort_part()
 ACTION = action_part()
 
 
@@ -263,7 +283,7 @@ FORMS = (
     call_form("truncate", Kind.TRUNCATE, PROCESS, DESCRIPTOR),
     call_form("map-read", Kind.MAP_READ, PROCESS, DESCRIPTOR),
     call_form("map-both", Kind.MAP_BOTH, PROCESS, DESCRIPTOR),
-    call_form("unmap", Kind.UNMAP, PROCESS, CONTAINER),
+    call_form("unmap", Kind.UNMAP, PROCESS, CONTAINER, SORT),
     call_form("unlink", Kind.UNLINK, PROCESS, NAME),
     call_form("rename", Kind.RENAME, PROCESS, FROM_NAME, TO_NAME),
     call_form("link", Kind.LINK, PROCESS, FROM_NAME, TO_NAME),
@@ -289,7 +309,7 @@ def begins(word: str, key: str) -> bool:
 
 
 def read_parts(form: Form, words: List[str]) -> bytes:
-    """The bytes after the lead; the words may come in any order."""
+    """The bytes after the lead; words come in any order, and the empty key fits none of another."""
     said: Dict[int, bytes] = {}
     for word in words:
         places = [
@@ -300,13 +320,14 @@ def read_parts(form: Form, words: List[str]) -> bytes:
         ]
         if not places:
             raise Unfit(word, f"only: {form.shape}")
-        index, key = places[0]
+        index, key = next((place for place in places if place[1]), places[0])
         said[index] = form.parts[index].read(key, word[len(key) :])
     for index, part in enumerate(form.parts):
         if not part.keys:
             said[index] = part.read("", "")
         if index not in said:
-            raise Unfit(" ".join([form.word, *words]), f"{part.shape} too: {form.shape}")
+            whole = " ".join([form.word, *words])
+            raise Unfit(whole, f"{part.shape} too{part.meaning}: {form.shape}")
     return b"".join(said[index] for index in range(len(form.parts)))
 
 

@@ -3,11 +3,11 @@
 from typing import Dict, Iterable, List, Optional, Tuple
 
 from model.choices import Choices
-from model.limits import ACTIONS, CONFINE_TAG, CONTAINERS, DESCRIPTORS, DEVICES, DIVERT_ACTION
-from model.limits import FILES, FORBID_TAG, INHIBIT_ACTION, ITEMS, NAMES, PROCESSES, SEPARATE_TAG
-from model.limits import Kind, process_container
+from model.limits import ACTIONS, CONFINE_TAG, CONTAINERS, COUNT_LIMIT, DESCRIPTORS, DEVICES
+from model.limits import DIVERT_ACTION, FILES, FORBID_TAG, INHIBIT_ACTION, ITEMS, MAP_SORTS, NAMES
+from model.limits import PROCESSES, SEPARATE_TAG, Kind
 from model.records import CALL_FIELDS, Call, Rule, confine, forbid, separate
-from model.tracker import FIELD_RANGES, State, Tracker, substitutes
+from model.tracker import FIELD_RANGES, MAPPED_SORTS, State, Tracker, substitutes
 
 # What each field of a call names in the present state.
 ROLES: Dict[int, Tuple[str, str, str, str]] = {
@@ -23,7 +23,7 @@ ROLES: Dict[int, Tuple[str, str, str, str]] = {
     Kind.TRUNCATE: ("live process", "file descriptor", "zero", "zero"),
     Kind.MAP_READ: ("live process", "open descriptor", "zero", "zero"),
     Kind.MAP_BOTH: ("live process", "open descriptor", "zero", "zero"),
-    Kind.UNMAP: ("live process", "mapped container", "zero", "zero"),
+    Kind.UNMAP: ("live process", "mapped container", "mapped sort", "zero"),
     Kind.UNLINK: ("live process", "bound name", "zero", "zero"),
     Kind.RENAME: ("live process", "bound name", "any name", "zero"),
     Kind.LINK: ("live process", "bound name", "unbound name", "zero"),
@@ -76,17 +76,30 @@ class Proposer:
         return [c for c in FILES if c not in used]
 
     def mapped(self, process: int) -> List[int]:
-        """The containers that have a link from or to a process."""
-        own = process_container(process)
-        ends = {end for pair in self.state.links if own in pair for end in pair}
-        return sorted(ends - {own})
+        """The containers that a process maps."""
+        return sorted({mapped for owner, mapped, _ in self.state.mappings if owner == process})
+
+    def sorts(self, process: int, container: int) -> List[int]:
+        """The sorts of mapping that a process has of a container."""
+        return [sort for sort in MAP_SORTS if self.state.count(process, container, sort)]
+
+    def mappable(self, process: int, kind: int) -> List[int]:
+        """The open descriptors of a process by which a kind of mapping can be made once more."""
+        state, sort = self.state, MAPPED_SORTS[kind]
+        counts = {
+            d: state.count(process, state.descriptors[process, d], sort) for d in self.open(process)
+        }
+        return [descriptor for descriptor, count in counts.items() if count < COUNT_LIMIT]
 
     def file_descriptors(self, process: int) -> List[int]:
         """The open descriptors of a process that lead to files or pipes."""
         return [d for d in self.open(process) if self.state.descriptors[process, d] in FILES]
 
-    def fitting(self, role: str, process: int) -> List[int]:
-        """The values that have a role now; descriptors are those of the process."""
+    def fitting(self, role: str, process: int, first: int = 0) -> List[int]:
+        """The values that have a role now; descriptors and mappings are those of the process.
+
+        The sorts of a mapping are those of the container in the first field.
+        """
         if role == "zero":
             return [0]
         sources = {
@@ -99,6 +112,7 @@ class Proposer:
             "closed descriptor": lambda: self.closed(process),
             "file descriptor": lambda: self.file_descriptors(process),
             "mapped container": lambda: self.mapped(process),
+            "mapped sort": lambda: self.sorts(process, first),
             "unused file": self.unused_files,
             "used container": lambda: sorted(self.state.used()),
             "device": lambda: list(DEVICES),
@@ -115,9 +129,11 @@ class Proposer:
             process = self.choices.pick(callers)
         values = [process]
         for role in ROLES[kind][1:]:
-            fitting = self.fitting(role, process)
+            fitting = self.fitting(role, process, values[-1])
             if kind == Kind.PIPE and role == "closed descriptor":
                 fitting = [d for d in fitting if d not in values[1:]]
+            if kind in MAPPED_SORTS and role == "open descriptor":
+                fitting = self.mappable(process, kind)
             if not fitting:
                 return None
             if role in ("item", "used container", "open descriptor"):
@@ -132,7 +148,7 @@ class Proposer:
         for name in fields:
             index = CALL_FIELDS.index(name)
             allowed = FIELD_RANGES[call.kind][index]
-            fitting = self.fitting(ROLES[call.kind][index], call.process)
+            fitting = self.fitting(ROLES[call.kind][index], call.process, call.a)
             wrong = [value for value in allowed if value not in fitting]
             if outside or not wrong:
                 wrong = [value for value in range(256) if value not in allowed]

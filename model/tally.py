@@ -4,10 +4,11 @@ from collections import Counter
 from itertools import combinations
 from typing import List, Set
 
-from model.limits import CALL_TAG, DIVERT_ACTION, FILES, Kind, by_place
+from model.limits import CALL_TAG, COUNT_LIMIT, DIVERT_ACTION, FILES, MAP_SORTS, Kind, Refusal
+from model.limits import by_place
 from model.records import Call, decode_call, decode_rule, read_frame
-from model.tracker import Answer, State, Tracker, broken_rules, divert_obstacle, frame_refusals
-from model.tracker import work_out
+from model.tracker import MAPPED_SORTS, Answer, State, Tracker, broken_rules, divert_obstacle
+from model.tracker import frame_refusals, work_out
 
 
 class Tally:
@@ -33,6 +34,8 @@ class Tally:
             answer, _ = tracker.answer_record(data)
             self._count_answer(answer, data, before)
             frame = read_frame(data)
+            if answer.word == "refused":
+                self._count_refused(answer, data, before)
             if frame is None or answer.word == "refused":
                 continue
             if frame.tag != CALL_TAG:
@@ -54,6 +57,22 @@ class Tally:
         applying = by_place(frame_refusals(before, read_frame(data)))
         self.refused_together.update(combinations(applying, 2))
 
+    def _count_refused(self, answer: Answer, data: bytes, before: State) -> None:
+        """Count how the tests of mappings fail."""
+        frame = read_frame(data)
+        refusal = answer.numbers[0]
+        tested = (Refusal.OUT_OF_RANGE, Refusal.NO_LINK, Refusal.COUNT_FULL)
+        if frame is None or frame.tag != CALL_TAG or refusal not in tested:
+            return
+        call = decode_call(frame.value)
+        if refusal == Refusal.OUT_OF_RANGE and call.kind == Kind.UNMAP and call.b not in MAP_SORTS:
+            self.events["unmap: unknown sort"] += 1
+        if refusal == Refusal.NO_LINK:
+            others = [s for s in MAP_SORTS if before.count(call.process, call.a, s)]
+            self.events["unmap: the other sort" if others else "unmap: no mapping at all"] += 1
+        if refusal == Refusal.COUNT_FULL:
+            self.events[f"count full, kind {call.kind}"] += 1
+
     def _count_inhibited(self, call: Call, answer: Answer, before: State) -> None:
         rule = before.rules[answer.numbers[0]]
         obstacle = divert_obstacle(before, call, rule)
@@ -70,6 +89,7 @@ class Tally:
         self.done_kinds[call.kind] += 1
         self._count_emptied(call, before, after)
         self._count_processes(call, before, exited)
+        self._count_mappings(call, before, after)
         gained = {c for c in after.items if after.items[c] - before.items[c]}
         if gained and call.kind != Kind.FORK:
             self._count_gift(before, gained)
@@ -88,13 +108,34 @@ class Tally:
                 self.events["truncate kept items"] += 1
 
     def _count_processes(self, call: Call, before: State, exited: Set[int]) -> None:
-        mapped = any(call.caller in pair for pair in before.links)
-        if call.kind == Kind.FORK and mapped:
+        counts = [count for key, count in before.mappings.items() if key[0] == call.process]
+        if call.kind == Kind.FORK and counts:
             self.events["fork of a mapped process"] += 1
-        if call.kind == Kind.EXIT and mapped:
+        if call.kind == Kind.EXIT and counts:
             exited.add(call.process)
         if call.kind == Kind.START and call.process in exited:
             self.events["start again after a mapped exit"] += 1
+        if call.kind in (Kind.FORK, Kind.EXIT) and max(counts, default=0) > 1:
+            self.events[f"mapped twice before kind {call.kind}"] += 1
+        if call.kind in (Kind.FORK, Kind.EXIT) and COUNT_LIMIT in counts:
+            self.events[f"count full before kind {call.kind}"] += 1
+
+    def _count_mappings(self, call: Call, before: State, after: State) -> None:
+        """Count how mappings are made and ended beside others of the same container."""
+        if call.kind in MAPPED_SORTS:
+            container = before.descriptors[call.process, call.a]
+            self._count_sorts("mapped", MAPPED_SORTS[call.kind], call.process, container, before)
+        if call.kind == Kind.UNMAP:
+            self._count_sorts("unmapped", call.b, call.process, call.a, after)
+            if before.count(call.process, call.a, call.b) == COUNT_LIMIT:
+                self.events["unmapped, the count full"] += 1
+
+    def _count_sorts(self, done: str, sort: int, process: int, container: int, by: State) -> None:
+        """Count which other mappings of the pair there are."""
+        there = [s for s in MAP_SORTS if by.count(process, container, s)]
+        same = "with the same sort" if sort in there else "without the same sort"
+        other = "beside the other" if {*there} - {sort} else "alone"
+        self.events[f"{done}, sort {sort}, {same}, {other}"] += 1
 
     def _count_gift(self, before: State, gained: Set[int]) -> None:
         """Count the links from the container given to, the nearest gainer."""

@@ -60,6 +60,19 @@ def test_state_and_queries(checks: Checks, options: Options) -> None:
         check_output(checks, ["holders", "-", "1"], log, b"3 3 8 24\n", status)
 
 
+def test_mappings_shown(checks: Checks, options: Options) -> None:
+    text = (
+        b"start 0\ndevice 0 descriptor=0 device=panel\ncreate 0 name=1 descriptor=1 container=24\n"
+        b"map-read 0 descriptor=1\nmap-both 0 descriptor=0\nmap-read 0 descriptor=1\n"
+        b"map-both 0 descriptor=1\nunmap 0 container=24 both\n"
+    )
+    shown = command(["state", "-"], text).stdout.decode().splitlines()
+    lines = [line for line in shown if "link" in line or "maps" in line]
+    expected = ["link 1 -> 8", "link 8 -> 1", "link 24 -> 8"]
+    expected += ["process 0 maps 1: read 0, both 1", "process 0 maps 24: read 2, both 0"]
+    checks.equal("modelrun state: mappings", lines, expected)
+
+
 def test_texts(checks: Checks, options: Options) -> None:
     text = disassemble(RUN_B_INPUT)
     check_output(checks, ["answers", "-"], text, RUN_B_OUTPUT.encode())

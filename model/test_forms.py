@@ -6,20 +6,20 @@ from unittest import mock
 from model import tracker
 from model.checks import Checks, Options
 from model.contents import RecordStep, call_of
-from model.generate import generate_records
-from model.limits import Kind
+from model.limits import Kind, MapSort
 from model.records import Call, encode, forbid
-from model.test_random import ENOUGH_CASES, RECORDS, mix_of, state_faults
+from model.test_random import ENOUGH_CASES, records_of, state_faults
 from model.tracker import Answer, State, Tracker
 
 
 def map_both_at_once(state: State, call: Call) -> None:
-    """As read and as write, both from the state before; then the links."""
+    """As read and as write, both from the state before; then the mapping."""
     container = state.descriptors[call.process, call.a]
     from_container, from_process = state.items[container], state.items[call.caller]
     state.give(call.caller, from_container)
     state.give(container, from_process)
-    state.links.update([(container, call.caller), (call.caller, container)])
+    key = (call.process, container, MapSort.MAPPED_BOTH)
+    state.mappings[key] = state.mappings.get(key, 0) + 1
 
 
 def by_sequence(state: State, records: List[bytes]) -> List[Tuple[Answer, State]]:
@@ -51,7 +51,7 @@ def test_forms_agree(checks: Checks, options: Options) -> None:
     """Each record of a log gets the same by both forms, and leaves the same state."""
     compared = 0
     for seed in range(options.seed, options.seed + options.cases):
-        records = generate_records(seed, RECORDS, mix_of(seed))
+        records = records_of(seed)
         now, former = by_sequence(State(), records), at_once(State(), records)
         faults = [(n, f"{x[0]}, {y[0]}") for n, (x, y) in enumerate(zip(now, former)) if x != y]
         checks.seeded("test_forms_agree", seed, faults)
@@ -64,7 +64,8 @@ def test_forms_agree(checks: Checks, options: Options) -> None:
 
 def test_forms_differ(checks: Checks, options: Options) -> None:
     """They differ in a state that no record makes: 9 and 25 lack what is linked to them."""
-    torn = State(live={0, 1}, links={(24, 9), (8, 25), (25, 8)}, names={0: 24, 1: 25})
+    mappings = {(1, 24, MapSort.MAPPED_READ): 1, (0, 25, MapSort.MAPPED_BOTH): 1}
+    torn = State(live={0, 1}, mappings=mappings, names={0: 24, 1: 25})
     torn.descriptors.update({(0, 0): 24, (0, 1): 25, (1, 0): 24})
     torn.items.update({24: frozenset({1}), 8: frozenset({2})})
     ruled = torn.copy()

@@ -8,7 +8,8 @@ from pathlib import Path
 ROOT = Path(__file__).resolve().parents[1]
 sys.path.insert(0, str(ROOT))
 
-from model import test_commands, test_forms, test_random, test_refusals, test_runs  # noqa: E402
+from model import test_commands, test_forms, test_mappings, test_random  # noqa: E402
+from model import test_refusals, test_runs  # noqa: E402
 from model.checks import Checks, Options  # noqa: E402
 
 DEFAULT_SEED = 20260
@@ -30,7 +31,8 @@ def main() -> int:
     options = Options(arguments.seed, arguments.cases)
     checks = Checks()
     print(f"seeds from {options.seed}, {options.cases} cases a random test")
-    for module in (test_runs, test_refusals, test_random, test_forms, test_commands):
+    modules = (test_runs, test_refusals, test_mappings, test_random, test_forms, test_commands)
+    for module in modules:
         for name, test in sorted(vars(module).items()):
             if name.startswith("test_") and arguments.only in name:
                 checks.run(test, options)

@@ -10,14 +10,19 @@ from model.choices import Choices
 from model.contents import MixedFunctions, RecordStep, Step, TwinReport, TwinRun, VariedFunctions
 from model.contents import call_of, exactness_faults
 from model.generate import MIXES, generate_records, generate_steps
-from model.limits import CONFINE_TAG, CONTAINERS, FILES, FORBID_TAG, KINDS, PROCESS_CONTAINERS
-from model.limits import RECORD_REFUSALS, SEPARATE_TAG, Kind, Refusal, process_container
+from model.limits import CONFINE_TAG, CONTAINERS, COUNT_LIMIT, FILES, FORBID_TAG, KINDS, MAP_SORTS
+from model.limits import PROCESS_CONTAINERS, RECORD_REFUSALS, SEPARATE_TAG, Kind, Refusal
+from model.limits import process_container
 from model.records import Call, Rule, read_frame
 from model.tally import Tally
-from model.tracker import NO_ITEMS, State, Tracker
+from model.test_mappings import WRONG
+from model.tracker import MAPPED_SORTS, NO_ITEMS, State, Tracker
 
 STEPS = 160
 RECORDS = 150
+LONG_STEPS = 620  # of a list in which a count of mappings climbs to its limit
+LONG_RECORDS = 480
+LONG_EVERY = 17  # logs, one of which is long; of the lists of steps every third such
 ENOUGH_CASES = 50  # with fewer, nothing is said about a whole batch
 MIX_NAMES = list(MIXES)
 
@@ -30,7 +35,13 @@ def mix_of(seed: int) -> str:
 @functools.lru_cache(maxsize=None)
 def steps_of(seed: int) -> List[Step]:
     """The step list of a seed; several tests use the same."""
-    return generate_steps(seed, STEPS, mix_of(seed))
+    return generate_steps(seed, STEPS if seed % (3 * LONG_EVERY) else LONG_STEPS, mix_of(seed))
+
+
+def records_of(seed: int, mix: str = "") -> List[bytes]:
+    """The records of a seed's log."""
+    count = RECORDS if seed % LONG_EVERY else LONG_RECORDS
+    return generate_records(seed, count, mix or mix_of(seed))
 
 
 def chosen_items(seed: int, steps: List[Step]) -> List[int]:
@@ -101,12 +112,6 @@ def truncate_always(state: State, call: Call) -> None:
     state.items[state.descriptors[call.process, call.a]] = NO_ITEMS
 
 
-def exit_leaves_links(state: State, call: Call) -> None:
-    links = state.links
-    right_exit(state, call)
-    state.links = links
-
-
 def fork_without_items(state: State, call: Call) -> None:
     right_fork(state, call)
     state.items[process_container(call.a)] = NO_ITEMS
@@ -118,7 +123,6 @@ def map_both_only_reads(state: State, call: Call) -> None:
     state.items[state.descriptors[call.process, call.a]] = written
 
 
-right_exit = tracker.EFFECTS[Kind.EXIT]
 right_fork = tracker.EFFECTS[Kind.FORK]
 right_map_both = tracker.EFFECTS[Kind.MAP_BOTH]
 right_broken_places = tracker.broken_places
@@ -134,10 +138,10 @@ def give_to_all(state: State, container: int, given: frozenset) -> None:
 
 
 UNSAFE = {
+    **{name: WRONG[name] for name in ("unmap clears the pair", "fork without mappings")},
     "one link": lambda: limited_reach(1),
     "three links": lambda: limited_reach(3),
     "truncate always empties": lambda: wrong_effect(Kind.TRUNCATE, truncate_always),
-    "exit leaves links": lambda: wrong_effect(Kind.EXIT, exit_leaves_links),
     "fork without items": lambda: wrong_effect(Kind.FORK, fork_without_items),
     "map both only reads": lambda: wrong_effect(Kind.MAP_BOTH, map_both_only_reads),
     "rules spare processes": lambda: mock.patch.object(
@@ -145,6 +149,9 @@ UNSAFE = {
     ),
 }
 INEXACT = {
+    "exit leaves mappings": WRONG["exit leaves mappings"],
+    "one count for both sorts": WRONG["one count for both sorts"],
+    "a two-way mapping raises the read count": WRONG["a two-way mapping raises the read count"],
     "everything is stained": lambda: mock.patch.object(State, "give", give_to_all),
     "ended uses keep items": lambda: mock.patch.object(State, "empty_unused", lambda state: None),
 }
@@ -190,6 +197,10 @@ def state_faults(state: State) -> List[str]:
         processes = set(pair) & set(PROCESS_CONTAINERS)
         if len(processes) != 1 or not processes <= own:
             faults.append("a link has not one live process")
+    if any(count not in range(1, COUNT_LIMIT + 1) for count in state.mappings.values()):
+        faults.append("a count is not from 1 to 255")
+    if any(key[0] not in state.live or key[2] not in MAP_SORTS for key in state.mappings):
+        faults.append("a count of a dead process or of no sort")
     if any(process not in state.live for process, _ in state.descriptors):
         faults.append("a dead process has a descriptor")
     if any(container in PROCESS_CONTAINERS for container in state.descriptors.values()):
@@ -221,19 +232,18 @@ def log_faults(records: List[bytes]) -> List[Tuple[int, str]]:
 def test_invariants(checks: Checks, options: Options) -> None:
     """States keep what document 01 says of them; refusals change nothing."""
     for seed in range(options.seed, options.seed + options.cases):
-        records = generate_records(seed, RECORDS, mix_of(seed))
+        records = records_of(seed)
         checks.seeded("test_invariants", seed, log_faults(records))
         answers = Tracker().run_log(b"".join(records))
         checks.equal(f"an answer a record, seed {seed}", len(answers), len(records))
-        again = generate_records(seed, RECORDS, mix_of(seed))
-        checks.true(f"the same log again, seed {seed}", again == records)
+        checks.true(f"the same log again, seed {seed}", records_of(seed) == records)
 
 
 def batch(options: Options, mix: str) -> Tally:
     """The tally of a batch of logs of one mix."""
     tally = Tally()
     for seed in range(options.seed, options.seed + options.cases):
-        tally.add_log(generate_records(seed, RECORDS, mix))
+        tally.add_log(records_of(seed, mix))
     return tally
 
 
@@ -251,6 +261,7 @@ PAIRS = [
     (Refusal.OUT_OF_RANGE, Refusal.NO_LINK),
     (Refusal.OUT_OF_RANGE, Refusal.SAME_TWICE),
     (Refusal.OUT_OF_RANGE, Refusal.NO_FILE),
+    (Refusal.OUT_OF_RANGE, Refusal.COUNT_FULL),
     (Refusal.OUT_OF_RANGE, Refusal.RULES_FULL),
     (Refusal.OUT_OF_RANGE, Refusal.BROKEN_ALREADY),
     (Refusal.DEAD_PROCESS, Refusal.TAKEN),
@@ -276,7 +287,27 @@ EVENTS = [
     "truncate kept items",
     "fork of a mapped process",
     "start again after a mapped exit",
+    "mapped twice before kind 17",
+    "mapped twice before kind 18",
     *(f"emptied by kind {kind}" for kind in EMPTYING),
+]
+
+# Of mappings; these occur in some of the mixes.
+PLACES = [
+    f"sort {sort}, {same} the same sort, {other}"
+    for sort in MAP_SORTS
+    for same in ("with", "without")
+    for other in ("alone", "beside the other")
+]
+MAPPING_EVENTS = [
+    *(f"{done}, {place}" for done in ("mapped", "unmapped") for place in PLACES),
+    "unmap: no mapping at all",
+    "unmap: the other sort",
+    "unmap: unknown sort",
+    *(f"count full, kind {kind}" for kind in MAPPED_SORTS),
+    "count full before kind 17",
+    "count full before kind 18",
+    "unmapped, the count full",
 ]
 
 
@@ -301,6 +332,9 @@ def check_tallies(checks: Checks, tallies: Dict[str, Tally]) -> None:
             checks.true(f"generated: rule of tag {tag:x}, action {action}", count > 0)
     for event in EVENTS:
         checks.true(f"generated: {event}", tallies["deep"].events[event] > 0)
+    for event in MAPPING_EVENTS:
+        count = sum(tally.events[event] for tally in tallies.values())
+        checks.true(f"generated: {event}", count > 2, f"{count} times")
     deep = tallies["deep"]
     checks.true("generated: a reach of 4 links", deep.longest_reach >= 4)
     checks.true("generated: a gift over 4 links", deep.longest_gift >= 4)

@@ -4,12 +4,12 @@ from itertools import product
 from typing import List, Set, Tuple, Union
 
 from model.checks import Checks, Options
-from model.limits import ACTIONS, CALL_TAG, CONTAINERS, FORBID_TAG, ITEMS, KINDS, PROCESSES, Kind
-from model.limits import Refusal
+from model.limits import ACTIONS, CALL_TAG, CONTAINERS, COUNT_LIMIT, FORBID_TAG, ITEMS, KINDS
+from model.limits import MAP_SORTS, PROCESSES, Kind, Refusal
 from model.records import Call, Rule, confine, encode, forbid, frame_bytes, read_frame, separate
 from model.test_runs import RUN_G, allows, more
-from model.tracker import CONTAINER, DESCRIPTOR, LINK, NAME, PROCESS, Fact, Tracker, frame_refusals
-from model.tracker import record_facts, refusals, refused
+from model.tracker import CONTAINER, DESCRIPTOR, MAPPING, NAME, PROCESS, Fact, Tracker
+from model.tracker import frame_refusals, record_facts, refusals, refused
 
 # Processes 0 and 1 live; name 5 and descriptor 0 lead to 24, which holds items 1
 # and 2; descriptor 1 leads to device 1; 16 lies in device 2 alone.
@@ -24,8 +24,18 @@ SETUP = [
 ]
 FULL = SETUP + [forbid(40, [])] * 32
 
-# The order of the tests. Document 02, Paper 2: 14 to 16 are in 8's place, each for its kinds.
-ORDER = [1, 2, 3, 4, 5, 6, 7, 8, 14, 15, 16, 9, 10, 11, 12, 13]
+# Process 0 maps 24 to read and device 1 both ways, each as often as can be, and 25 both ways once.
+COUNTED = [
+    *SETUP,
+    *[Call(Kind.MAP_READ, 0, 0)] * COUNT_LIMIT,
+    *[Call(Kind.MAP_BOTH, 0, 1)] * COUNT_LIMIT,
+    Call(Kind.CREATE, 0, 6, 2, 25),
+    Call(Kind.MAP_BOTH, 0, 2),
+]
+
+# The order of the tests. Document 02, Paper 2: 14 to 16 are in 8's place, each for its kinds. Paper
+# 4: 17 is after 10.
+ORDER = [1, 2, 3, 4, 5, 6, 7, 8, 14, 15, 16, 9, 10, 17, 11, 12, 13]
 KINDS_OF_PLACE = {8: [19], 14: [6, 7, 8, 9, 10, 11, 12], 15: [2, 14, 15, 16], 16: [13]}
 
 Case = Tuple[Union[Call, Rule], Set[Refusal]]
@@ -65,8 +75,9 @@ CALL_CASES: List[Case] = [
     (Call(Kind.MAP_READ, 1, 0), {Refusal.DESCRIPTOR_CLOSED}),
     (Call(Kind.MAP_BOTH, 1, 0), {Refusal.DESCRIPTOR_CLOSED}),
     (Call(Kind.UNMAP, 0, 24), {Refusal.NO_LINK}),
+    (Call(Kind.UNMAP, 0, 24, 1), {Refusal.NO_LINK}),
     (Call(Kind.UNMAP, 0, 8), {Refusal.NO_LINK}),
-    (Call(Kind.UNMAP, 0, 23), {Refusal.NO_LINK}),
+    (Call(Kind.UNMAP, 0, 23, 1), {Refusal.NO_LINK}),
     (Call(Kind.UNLINK, 0, 6), {Refusal.NAME_UNBOUND}),
     (Call(Kind.RENAME, 0, 6, 5), {Refusal.NAME_UNBOUND}),
     (Call(Kind.RENAME, 0, 6, 6), {Refusal.NAME_UNBOUND}),
@@ -83,7 +94,8 @@ SEVERAL_CASES: List[Case] = [
     (Call(Kind.OPEN, 0, 5, 0, 1), {Refusal.OUT_OF_RANGE, Refusal.TAKEN}),
     (Call(Kind.CLOSE, 0, 2, 1), {Refusal.OUT_OF_RANGE, Refusal.DESCRIPTOR_CLOSED}),
     (Call(Kind.UNLINK, 0, 128), {Refusal.OUT_OF_RANGE, Refusal.NAME_UNBOUND}),
-    (Call(Kind.UNMAP, 0, 24, 1), {Refusal.OUT_OF_RANGE, Refusal.NO_LINK}),
+    (Call(Kind.UNMAP, 0, 24, 2), {Refusal.OUT_OF_RANGE, Refusal.NO_LINK}),
+    (Call(Kind.UNMAP, 0, 24, 1, 1), {Refusal.OUT_OF_RANGE, Refusal.NO_LINK}),
     (Call(Kind.LABEL, 1, 25, 1), {Refusal.OUT_OF_RANGE, Refusal.MISSING}),
     (Call(Kind.PIPE, 0, 32, 32, 25), {Refusal.OUT_OF_RANGE, Refusal.SAME_TWICE}),
     (Call(Kind.TRUNCATE, 0, 1, 0, 255), {Refusal.OUT_OF_RANGE, Refusal.NO_FILE}),
@@ -141,10 +153,38 @@ FULL_CASES: List[Case] = [
 ]
 
 
+COUNTED_CASES: List[Case] = [
+    (Call(Kind.MAP_READ, 0, 0), {Refusal.COUNT_FULL}),
+    (Call(Kind.MAP_BOTH, 0, 1), {Refusal.COUNT_FULL}),
+    (Call(Kind.MAP_READ, 0, 0, 1), {Refusal.OUT_OF_RANGE, Refusal.COUNT_FULL}),
+    (Call(Kind.MAP_BOTH, 0, 1, 0, 255), {Refusal.OUT_OF_RANGE, Refusal.COUNT_FULL}),
+    (Call(Kind.MAP_READ, 0, 3), {Refusal.DESCRIPTOR_CLOSED}),
+    (Call(Kind.MAP_READ, 1, 0), {Refusal.DESCRIPTOR_CLOSED}),
+    (Call(Kind.TRUNCATE, 0, 1), {Refusal.NO_FILE}),
+    (Call(Kind.UNMAP, 0, 24, 1), {Refusal.NO_LINK}),
+    (Call(Kind.UNMAP, 0, 1, 0), {Refusal.NO_LINK}),
+    (Call(Kind.UNMAP, 0, 25, 0), {Refusal.NO_LINK}),
+    (Call(Kind.UNMAP, 0, 25, 2), {Refusal.OUT_OF_RANGE, Refusal.NO_LINK}),
+    (Call(Kind.UNMAP, 1, 25, 1), {Refusal.NO_LINK}),
+    (Call(Kind.UNMAP, 2, 25, 1), {Refusal.DEAD_PROCESS, Refusal.NO_LINK}),
+]
+
+# Calls beside them that pass.
+COUNTED_PASSING = [
+    Call(Kind.MAP_BOTH, 0, 0),
+    Call(Kind.MAP_READ, 0, 1),
+    Call(Kind.MAP_READ, 0, 2),
+    Call(Kind.MAP_BOTH, 0, 2),
+    Call(Kind.UNMAP, 0, 24, 0),
+    Call(Kind.UNMAP, 0, 1, 1),
+    Call(Kind.UNMAP, 0, 25, 1),
+]
+
+
 def test_numbers(checks: Checks, options: Options) -> None:
     checks.equal("kinds: numbers", [int(kind) for kind in Kind], list(range(1, 20)))
     checks.equal("refusals: the order of places", [int(refusal) for refusal in Refusal], ORDER)
-    checks.equal("refusals: numbers", sorted(ORDER), list(range(1, 17)))
+    checks.equal("refusals: numbers", sorted(ORDER), list(range(1, 18)))
     said = [str(Kind.READ), f"{Kind.READ}", f"{Kind.READ:>3}", str(refused(Refusal.TAKEN))]
     checks.equal("numbers as they are written", said, ["8", "8", "  8", "refused 7"])
 
@@ -173,7 +213,7 @@ FACT_CASES: List[Tuple[Union[Call, Rule], Fact]] = [
     (Call(Kind.CREATE, 0, 6, 2, 24), Fact(Refusal.TAKEN, "c", CONTAINER)),
     (Call(Kind.READ, 1, 0), Fact(Refusal.DESCRIPTOR_CLOSED, "a", DESCRIPTOR)),
     (Call(Kind.UNLINK, 0, 6), Fact(Refusal.NAME_UNBOUND, "a", NAME)),
-    (Call(Kind.UNMAP, 0, 24), Fact(Refusal.NO_LINK, "a", LINK)),
+    (Call(Kind.UNMAP, 0, 24), Fact(Refusal.NO_LINK, "a", MAPPING)),
     (Call(Kind.LABEL, 0, 25, 1), Fact(Refusal.MISSING, "a", CONTAINER)),
     (Call(Kind.PIPE, 0, 3, 3, 25), Fact(Refusal.SAME_TWICE, "b", DESCRIPTOR)),
     (Call(Kind.TRUNCATE, 0, 1), Fact(Refusal.NO_FILE, "a", DESCRIPTOR, containers=(1,))),
@@ -186,14 +226,31 @@ FACT_CASES: List[Tuple[Union[Call, Rule], Fact]] = [
 ]
 
 
+COUNTED_FACTS = [
+    (Call(Kind.MAP_READ, 0, 0), Fact(Refusal.COUNT_FULL, "a", DESCRIPTOR, containers=(24,))),
+    (Call(Kind.MAP_BOTH, 0, 1), Fact(Refusal.COUNT_FULL, "a", DESCRIPTOR, containers=(1,))),
+    (Call(Kind.UNMAP, 0, 24, 1), Fact(Refusal.NO_LINK, "a", MAPPING)),
+]
+
+
 def test_facts(checks: Checks, options: Options) -> None:
-    state = allows(SETUP).state
-    for record, fact in FACT_CASES:
-        checks.equal(f"{record}: facts", list(record_facts(state, record)), [fact])
+    for setup, cases in ((SETUP, FACT_CASES), (COUNTED, COUNTED_FACTS)):
+        state = allows(setup).state
+        for record, fact in cases:
+            checks.equal(f"{record}: facts", list(record_facts(state, record)), [fact])
+    sorts = Fact(Refusal.OUT_OF_RANGE, "b", allowed=MAP_SORTS)
+    facts = list(record_facts(allows(SETUP).state, Call(Kind.UNMAP, 0, 24, 2)))
+    checks.equal("an unknown sort: facts", facts, [sorts, Fact(Refusal.NO_LINK, "a", MAPPING)])
 
 
 def test_calls_refused(checks: Checks, options: Options) -> None:
     check_cases(checks, SETUP, CALL_CASES)
+
+
+def test_counts_refused(checks: Checks, options: Options) -> None:
+    check_cases(checks, COUNTED, COUNTED_CASES)
+    for call in COUNTED_PASSING:
+        checks.equal(f"{call}: passes", more(allows(COUNTED), [call]), ["allow"])
 
 
 def test_rules_refused(checks: Checks, options: Options) -> None:
@@ -220,7 +277,9 @@ PLACE_CASES: List[Tuple[str, Call, int]] = [
     ("rename of an unbound name, to a bound one", Call(Kind.RENAME, 0, 6, 5), 15),
     ("unmap of a file in use", Call(Kind.UNMAP, 0, 24), 16),
     ("unmap of a file not in use", Call(Kind.UNMAP, 0, 25), 16),
-    ("unmap with a field that is not used", Call(Kind.UNMAP, 0, 24, 1), 5),
+    ("unmap of the other sort", Call(Kind.UNMAP, 0, 24, 1), 16),
+    ("unmap of a sort that there is not", Call(Kind.UNMAP, 0, 24, 2), 5),
+    ("unmap with a field that is not used", Call(Kind.UNMAP, 0, 24, 0, 1), 5),
     ("label of a file not in use", Call(Kind.LABEL, 0, 25, 1), 8),
     ("label of a dead process", Call(Kind.LABEL, 0, 10, 1), 8),
     ("pipe of one descriptor twice, closed", Call(Kind.PIPE, 0, 3, 3, 25), 9),
@@ -268,7 +327,7 @@ def test_rules_accepted(checks: Checks, options: Options) -> None:
     checks.equal("rules accepted", lines, [f"rule {n}" for n in range(len(accepted))])
 
 
-# The ranges of document 01 by a letter, and each kind's fields by these letters.
+# The ranges of document 01 and of Paper 4 by a letter, and each kind's fields by these letters.
 RANGES = {
     "P": range(0, 16),
     "N": range(0, 128),
@@ -277,6 +336,7 @@ RANGES = {
     "C": range(0, 64),
     "I": range(0, 64),
     "V": range(0, 8),
+    "S": range(0, 2),
     "-": range(0, 1),
 }
 LAYOUTS = {
@@ -292,7 +352,7 @@ LAYOUTS = {
     Kind.TRUNCATE: "PD--",
     Kind.MAP_READ: "PD--",
     Kind.MAP_BOTH: "PD--",
-    Kind.UNMAP: "PC--",
+    Kind.UNMAP: "PCS-",
     Kind.UNLINK: "PN--",
     Kind.RENAME: "PNN-",
     Kind.LINK: "PNN-",

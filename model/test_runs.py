@@ -1,12 +1,13 @@
 """The runs of document 01, those of Paper 1 of document 02, and the effects of single calls.
 
-Run B is that of Paper 2: its last line but one is `refused 14`.
+Run B is that of Paper 2: its last line but one is `refused 14`. Run H is that of Paper 4: its
+unmap has b = 1.
 """
 
 from typing import Dict, List, Set, Tuple, Union
 
 from model.checks import Checks, Options
-from model.limits import CONTAINERS, Kind, Refusal
+from model.limits import CONTAINERS, Kind, MapSort, Refusal
 from model.records import Call, Rule, confine, encode, forbid, separate
 from model.tracker import State, Tracker, refused
 
@@ -124,7 +125,8 @@ def test_run_h_truncate(checks: Checks, options: Options) -> None:
     before = tracker.state
     checks.equal("run H: truncate mapped", more(tracker, [Call(Kind.TRUNCATE, 0, 0)]), ["allow"])
     checks.equal("run H: nothing changes", tracker.state, before)
-    answers = more(tracker, [Call(Kind.UNMAP, 0, 24), Call(Kind.TRUNCATE, 0, 0)])
+    unmap = Call(Kind.UNMAP, 0, 24, 1)
+    answers = more(tracker, [unmap, Call(Kind.TRUNCATE, 0, 0)])
     checks.equal("run H: unmap, truncate", answers, ["allow", "allow"])
     checks.equal("run H: holdings", holdings(tracker), {8: {2}, 9: {2}, 25: {2}})
 
@@ -221,6 +223,8 @@ def test_fork_copies(checks: Checks, options: Options) -> None:
     tracker = allows(RUN_G + [Call(Kind.FORK, 0, 15), Call(Kind.FORK, 1, 2)])
     expected = {(8, 24), (24, 8), (24, 9), (23, 24), (24, 23), (24, 10)}
     checks.equal("fork: links both ways", tracker.state.links, expected)
+    counts = {(0, 24, 1): 1, (1, 24, 0): 1, (15, 24, 1): 1, (2, 24, 0): 1}
+    checks.equal("fork: mappings", tracker.state.mappings, counts)
     child = {d: c for (p, d), c in tracker.state.descriptors.items() if p == 15}
     checks.equal("fork: descriptors", child, {0: 24, 1: 25})
     more(tracker, [Call(Kind.LABEL, 0, 23, 7)])
@@ -255,12 +259,21 @@ def test_mapping(checks: Checks, options: Options) -> None:
     before = tracker.state
     more(tracker, [Call(Kind.MAP_BOTH, 0, 0), Call(Kind.MAP_READ, 0, 0)])
     checks.equal("mapping again adds no link", tracker.state.links, before.links)
+    counts = {(0, 24, 1): 2, (0, 24, 0): 1, (1, 24, 0): 1}
+    checks.equal("mapping again raises counts", tracker.state.mappings, counts)
     more(tracker, [Call(Kind.CLOSE, 0, 0), Call(Kind.CLOSE, 1, 0), Call(Kind.UNLINK, 0, 0)])
     checks.equal("closed: links stay", tracker.state.links, before.links)
     checks.equal("closed: the mapped file keeps", holdings(tracker), holdings(allows(RUN_G)))
-    more(tracker, [Call(Kind.UNMAP, 0, 24)])
-    checks.equal("one unmap ends both", tracker.state.links, {(24, 9)})
-    more(tracker, [Call(Kind.UNMAP, 1, 24)])
+    both, read = MapSort.MAPPED_BOTH, MapSort.MAPPED_READ
+    for unmap, left in (
+        (Call(Kind.UNMAP, 0, 24, both), {(8, 24), (24, 8), (24, 9)}),
+        (Call(Kind.UNMAP, 0, 24, both), {(24, 8), (24, 9)}),
+        (Call(Kind.UNMAP, 1, 24, read), {(24, 8)}),
+    ):
+        checks.equal(f"{unmap}: answer", more(tracker, [unmap]), ["allow"])
+        checks.equal(f"{unmap}: links", tracker.state.links, left)
+    checks.equal("a mapped file keeps", holdings(tracker), holdings(allows(RUN_G)))
+    more(tracker, [Call(Kind.UNMAP, 0, 24, read)])
     checks.equal("last unmap empties", holdings(tracker), {8: {2}, 9: {2}, 25: {2}})
 
 

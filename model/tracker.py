@@ -1,6 +1,6 @@
 """The tracker of document 01 as plain sets, dictionaries and graph search.
 
-Papers 1 to 3 of document 02 are in it.
+Papers 1 to 4 of document 02 are in it.
 
 A State is never changed once it is in a Tracker: each accepted record puts a
 new State in its place, so a caller may keep an earlier one.
@@ -10,12 +10,14 @@ from dataclasses import dataclass, field
 from typing import Callable, Collection, Dict, FrozenSet, Iterable, Iterator, List, NamedTuple
 from typing import Optional, Set, Tuple, Union
 
-from model.limits import ACTIONS, CONTAINERS, DESCRIPTORS, DEVICES, DIVERT_ACTION, FILES, FORBID_TAG
-from model.limits import ITEMS, KINDS, NAMES, PROCESSES, RULE_LIMIT, SEPARATE_TAG, VALUE_LENGTHS
-from model.limits import Kind, Refusal, by_place, process_container
+from model.limits import ACTIONS, CONTAINERS, COUNT_LIMIT, DESCRIPTORS, DEVICES, DIVERT_ACTION
+from model.limits import FILES, FORBID_TAG, ITEMS, KINDS, MAP_SORTS, NAMES, PROCESSES, RULE_LIMIT
+from model.limits import SEPARATE_TAG, VALUE_LENGTHS, Kind, MapSort, Refusal, by_place
+from model.limits import process_container
 from model.records import CALL_FIELDS, RULE_ITEMS, Call, Frame, Rule, decode, read_frame
 
 NO_ITEMS: FrozenSet[int] = frozenset()
+MapKey = Tuple[int, int, int]  # of a count of mappings: process, container, sort
 
 
 class Answer(NamedTuple):
@@ -38,13 +40,13 @@ def refused(refusal: Refusal) -> Answer:
 
 @dataclass
 class State:
-    """Storage, links, naming, live processes and rules."""
+    """Storage, mappings, naming, live processes and rules."""
 
     live: Set[int] = field(default_factory=set)
     items: Dict[int, FrozenSet[int]] = field(
         default_factory=lambda: dict.fromkeys(CONTAINERS, NO_ITEMS)
     )
-    links: Set[Tuple[int, int]] = field(default_factory=set)
+    mappings: Dict[MapKey, int] = field(default_factory=dict)  # counts above 0 alone
     names: Dict[int, int] = field(default_factory=dict)
     descriptors: Dict[Tuple[int, int], int] = field(default_factory=dict)
     rules: List[Rule] = field(default_factory=list)
@@ -54,11 +56,26 @@ class State:
         return State(
             set(self.live),
             dict(self.items),
-            set(self.links),
+            dict(self.mappings),
             dict(self.names),
             dict(self.descriptors),
             list(self.rules),
         )
+
+    @property
+    def links(self) -> Set[Tuple[int, int]]:
+        """The links: to a process while it has any mapping, back while it has one both ways."""
+        found = set()
+        for process, container, sort in self.mappings:
+            own = process_container(process)
+            found.add((container, own))
+            if sort == MapSort.MAPPED_BOTH:
+                found.add((own, container))
+        return found
+
+    def count(self, process: int, container: int, sort: int) -> int:
+        """How many mappings of a sort a process has of a container."""
+        return self.mappings.get((process, container, sort), 0)
 
     def used(self) -> Set[int]:
         """The containers in use."""
@@ -66,8 +83,7 @@ class State:
         found.update(process_container(process) for process in self.live)
         found.update(self.names.values())
         found.update(self.descriptors.values())
-        for pair in self.links:
-            found.update(pair)
+        found.update(container for _, container, _ in self.mappings)
         return found
 
     def distances(self, container: int) -> Dict[int, int]:
@@ -111,7 +127,14 @@ class State:
             self.items[container] = NO_ITEMS
 
 
-# Effects of the calls: document 01, The records. Each changes the state given.
+# Effects of the calls: document 01, The records; document 02, Paper 4, for mappings. Each changes
+# the state given.
+
+# The sort of mapping that a kind makes.
+MAPPED_SORTS: Dict[int, MapSort] = {
+    Kind.MAP_READ: MapSort.MAPPED_READ,
+    Kind.MAP_BOTH: MapSort.MAPPED_BOTH,
+}
 
 
 def _start(state: State, call: Call) -> None:
@@ -163,22 +186,29 @@ def _truncate(state: State, call: Call) -> None:
         state.items[container] = NO_ITEMS
 
 
-def _map_read(state: State, call: Call) -> None:
+def _raise_count(state: State, call: Call) -> None:
     container = state.descriptors[call.process, call.a]
+    sort = MAPPED_SORTS[call.kind]
+    state.mappings[call.process, container, sort] = state.count(call.process, container, sort) + 1
+
+
+def _map_read(state: State, call: Call) -> None:
     _read(state, call)
-    state.links.add((container, call.caller))
+    _raise_count(state, call)
 
 
 def _map_both(state: State, call: Call) -> None:
     # In the order of document 02, Paper 3: the write is of what the process then holds.
-    container = state.descriptors[call.process, call.a]
     _read(state, call)
     _write(state, call)
-    state.links.update([(container, call.caller), (call.caller, container)])
+    _raise_count(state, call)
 
 
 def _unmap(state: State, call: Call) -> None:
-    state.links -= {(call.a, call.caller), (call.caller, call.a)}
+    key = (call.process, call.a, call.b)
+    left = state.mappings.pop(key) - 1
+    if left:
+        state.mappings[key] = left
 
 
 def _unlink(state: State, call: Call) -> None:
@@ -201,17 +231,17 @@ def _fork(state: State, call: Call) -> None:
     for (process, descriptor), container in list(state.descriptors.items()):
         if process == call.process:
             state.descriptors[call.a, descriptor] = container
-    for source, target in list(state.links):
-        if source == call.caller:
-            state.links.add((child, target))
-        if target == call.caller:
-            state.links.add((source, child))
+    for (process, container, sort), count in list(state.mappings.items()):
+        if process == call.process:
+            state.mappings[call.a, container, sort] = count
 
 
 def _exit(state: State, call: Call) -> None:
     state.live.remove(call.process)
     state.items[call.caller] = NO_ITEMS
-    state.links = {pair for pair in state.links if call.caller not in pair}
+    state.mappings = {
+        key: count for key, count in state.mappings.items() if key[0] != call.process
+    }
     state.descriptors = {
         key: container for key, container in state.descriptors.items() if key[0] != call.process
     }
@@ -268,7 +298,7 @@ FIELD_RANGES: Dict[int, Tuple[range, range, range, range]] = {
     Kind.TRUNCATE: (PROCESSES, DESCRIPTORS, UNUSED, UNUSED),
     Kind.MAP_READ: (PROCESSES, DESCRIPTORS, UNUSED, UNUSED),
     Kind.MAP_BOTH: (PROCESSES, DESCRIPTORS, UNUSED, UNUSED),
-    Kind.UNMAP: (PROCESSES, CONTAINERS, UNUSED, UNUSED),
+    Kind.UNMAP: (PROCESSES, CONTAINERS, MAP_SORTS, UNUSED),
     Kind.UNLINK: (PROCESSES, NAMES, UNUSED, UNUSED),
     Kind.RENAME: (PROCESSES, NAMES, NAMES, UNUSED),
     Kind.LINK: (PROCESSES, NAMES, NAMES, UNUSED),
@@ -282,7 +312,7 @@ PROCESS = "process"
 DESCRIPTOR = "descriptor"
 NAME = "name"
 CONTAINER = "container"
-LINK = "link"  # of the caller with a container
+MAPPING = "mapping"  # by the caller, of the container in field a and the sort in field b
 
 # Row 7, taken: the fields that must name something free.
 NEW_THINGS: Dict[int, Dict[str, str]] = {
@@ -306,7 +336,7 @@ NEEDED_THINGS: Dict[int, str] = {
     Kind.TRUNCATE: DESCRIPTOR,
     Kind.MAP_READ: DESCRIPTOR,
     Kind.MAP_BOTH: DESCRIPTOR,
-    Kind.UNMAP: LINK,
+    Kind.UNMAP: MAPPING,
     Kind.UNLINK: NAME,
     Kind.RENAME: NAME,
     Kind.LINK: NAME,
@@ -317,7 +347,7 @@ NEEDED_THINGS: Dict[int, str] = {
 LACKED: Dict[str, Refusal] = {
     DESCRIPTOR: Refusal.DESCRIPTOR_CLOSED,
     NAME: Refusal.NAME_UNBOUND,
-    LINK: Refusal.NO_LINK,
+    MAPPING: Refusal.NO_LINK,
     CONTAINER: Refusal.MISSING,
 }
 
@@ -330,17 +360,17 @@ class Fact(NamedTuple):
 
     refusal: Refusal
     field: str = ""  # that is at fault; empty if no single one is
-    thing: str = ""  # what it names, if that is dead, taken, missing or no file
+    thing: str = ""  # what it names, if that is dead, taken, missing, no file or mapped too often
     allowed: Collection[int] = ()  # the values that it may have, whatever the state is
     containers: Tuple[int, ...] = ()  # where the thing leads, or those that break the rule
 
 
 def is_there(state: State, call: Call, thing: str, number: int) -> bool:
-    """Whether a thing is live, open, bound, in use or linked with the caller."""
+    """Whether a thing is live, open, bound, in use or mapped by the caller."""
     if thing == PROCESS:
         return number in state.live
-    if thing == LINK:
-        return bool({(number, call.caller), (call.caller, number)} & state.links)
+    if thing == MAPPING:
+        return state.count(call.process, number, call.b) > 0
     if thing == CONTAINER:
         return number in state.used()
     return bool(leads(state, call, thing, number))
@@ -370,6 +400,9 @@ def call_facts(state: State, call: Call) -> Iterator[Fact]:
     target = leads(state, call, DESCRIPTOR, call.a)
     if call.kind == Kind.TRUNCATE and target and target[0] in DEVICES:
         yield Fact(Refusal.NO_FILE, "a", DESCRIPTOR, containers=target)
+    if call.kind in MAPPED_SORTS and target:
+        if state.count(call.process, target[0], MAPPED_SORTS[call.kind]) >= COUNT_LIMIT:
+            yield Fact(Refusal.COUNT_FULL, "a", DESCRIPTOR, containers=target)
 
 
 def state_facts(state: State, call: Call) -> Iterator[Fact]:

@@ -1,7 +1,7 @@
 /* Monitors of any bytes, by what pomtvia.h promises of them: every function ends and stays within its memory, the ways of a call refuse the
- * same and with a number that fits the kind, a refused or inhibited call leaves every field as it was, and the two queries agree. The
- * argument is how many monitors are tried. Writes how many calls were refused, inhibited and passed, and how many got each number of a
- * refusal; status 1 with a line where a promise is broken. */
+ * same and with a number that fits the kind, a refused or inhibited call leaves every field as it was, mappings are counted up to 255, and
+ * the two queries agree. The argument is how many monitors are tried. Writes how many calls were refused, inhibited and passed, and how many
+ * got each number of a refusal; status 1 with a line where a promise is broken. */
 #include <stdio.h>
 #include <stdlib.h>
 #include <string.h>
@@ -9,6 +9,8 @@
 #include "pomtvia.h"
 
 enum { GUARD = 64, CODES = 24, LOG = 64, FIELDS = offsetof(struct pomtvia_monitor, fields) + 129 };
+enum { ITEMS_AT = 1, MAPPED_AT = 65, COUNTS_AT = 97, WORDS = 353 }; /* where the words have items, who maps what, and counts less one */
+enum { COUNTED = 16 }; /* of so many monitors two have their counts gone through */
 
 /* What a function is lent, with bytes around it that it must leave. */
 struct lent {
@@ -54,7 +56,8 @@ static int guarded(const struct lent *l)
            && !memcmp(l->after, kept, GUARD);
 }
 
-/* Any bytes; every second monitor has live processes, few items, and descriptors and names that lead somewhere, so that calls are made. */
+/* Any bytes; every second monitor has live processes, few items, counts of 1 and of 255 among others, and descriptors and names that lead
+ * somewhere, so that calls are made. */
 static void fill(struct pomtvia_monitor *m, int likely)
 {
     uint8_t *bytes = (uint8_t *)m;
@@ -63,8 +66,12 @@ static void fill(struct pomtvia_monitor *m, int likely)
     if (!likely)
         return;
     m->words[0] |= any();
-    for (size_t k = 1; k < 97; k++)
+    for (size_t k = ITEMS_AT; k < MAPPED_AT; k++)
         m->words[k] &= any() & any() & any();
+    for (size_t k = MAPPED_AT; k < COUNTS_AT; k++)
+        m->words[k] &= any();
+    for (size_t k = COUNTS_AT; k < WORDS; k++)
+        m->words[k] = below(3) == 0 ? 0 : below(2) ? 0xFEFEFEFEFEFEFEFEu : m->words[k];
     for (size_t k = 0; k < sizeof m->descriptors; k++)
         m->descriptors[k] = below(4) ? below(POMTVIA_CONTAINERS) : 255;
     for (size_t k = 0; k < sizeof m->names; k++)
@@ -91,6 +98,8 @@ static int can_get(unsigned kind, unsigned number)
         return kind == POMTVIA_OPEN || (kind >= POMTVIA_UNLINK && kind <= POMTVIA_LINK);
     case POMTVIA_NO_LINK:
         return kind == POMTVIA_UNMAP;
+    case POMTVIA_COUNT_FULL:
+        return kind == POMTVIA_MAP_READ || kind == POMTVIA_MAP_BOTH;
     default:
         return number >= POMTVIA_UNKNOWN_KIND && number <= POMTVIA_NO_FILE;
     }
@@ -108,6 +117,12 @@ static void check_call(struct lent *l, const struct pomtvia_monitor *was)
         r[7] = below(65);
     if (r[3] == POMTVIA_LABEL && below(2))
         r[4] = 0;
+    if (below(8) == 0) {
+        r[3] = (uint8_t)(POMTVIA_MAP_READ + below(3));
+        r[6] = r[7] = 0;
+    }
+    if (r[3] == POMTVIA_UNMAP)
+        r[6] = below(3);
     for (int way = 0; way < 3; way++) {
         struct pomtvia_monitor *m = &l->monitor;
         memcpy(m, was, sizeof *m);
@@ -128,6 +143,76 @@ static void check_call(struct lent *l, const struct pomtvia_monitor *was)
         inhibited += word == POMTVIA_INHIBIT;
         passed += word == POMTVIA_ALLOW || word == POMTVIA_MODIFY;
     }
+}
+
+/* A call of process p with field b 0 or a sort, and c 0. */
+static uint32_t asked(struct pomtvia_monitor *m, unsigned kind, uint8_t p, uint8_t a, uint8_t b)
+{
+    return pomtvia_call(m, (uint8_t)kind, p, a, b, 0);
+}
+
+static uint32_t refused_with(unsigned number)
+{
+    return POMTVIA_REFUSED | number << 8;
+}
+
+/* Unmaps until no mapping of the sort is left: how many there were. Any bytes may count one more than calls can. */
+static unsigned unmapped(struct pomtvia_monitor *m, uint8_t p, uint8_t c, uint8_t sort)
+{
+    unsigned n = 0;
+    uint32_t answer;
+    while ((answer = asked(m, POMTVIA_UNMAP, p, c, sort)) == POMTVIA_ALLOW)
+        must(++n <= POMTVIA_MAPPINGS + 1, "a count has an end");
+    must(answer == refused_with(POMTVIA_NO_LINK), "an unmap is refused where no mapping of its sort is left");
+    return n;
+}
+
+/* The same on a copy: the monitor is as it was. */
+static unsigned counted(const struct pomtvia_monitor *m, uint8_t p, uint8_t c, uint8_t sort)
+{
+    struct pomtvia_monitor copy = *m;
+    return unmapped(&copy, p, c, sort);
+}
+
+/* A mapping more than the count can have: refused, and every field is as it was. */
+static void check_full(struct pomtvia_monitor *m, unsigned kind, uint8_t p, uint8_t d)
+{
+    struct pomtvia_monitor copy = *m;
+    must(asked(m, kind, p, d, 0) == refused_with(POMTVIA_COUNT_FULL), "a mapping is refused where the count is at 255");
+    must(!memcmp(m, &copy, FIELDS), "a refused mapping leaves every field");
+}
+
+/* The two counts of a process and a container that a descriptor leads to: one goes from none to 255 while the other stays; a fork copies
+ * both. No rule is loaded, so that nothing is inhibited. */
+static void check_counts(struct lent *l, const struct pomtvia_monitor *was)
+{
+    struct pomtvia_monitor *m = &l->monitor;
+    uint8_t p = below(POMTVIA_PROCESSES), child = (uint8_t)((p + 1 + below(POMTVIA_PROCESSES - 1)) % POMTVIA_PROCESSES);
+    uint8_t d = below(POMTVIA_DESCRIPTORS), c = below(POMTVIA_DEVICES), item = below(POMTVIA_ITEMS);
+    uint8_t sort = below(2), other = (uint8_t)(1 - sort);
+    unsigned kind = sort == POMTVIA_MAPPED_READ ? POMTVIA_MAP_READ : POMTVIA_MAP_BOTH;
+    uint64_t set = 0;
+    if (below(2))
+        c = (uint8_t)(POMTVIA_FIRST_FILE + below(POMTVIA_CONTAINERS - POMTVIA_FIRST_FILE));
+    memcpy(m, was, sizeof *m);
+    m->fields[128] = 0;
+    m->words[0] = (m->words[0] | 1u << p) & ~((uint64_t)1 << child);
+    m->descriptors[POMTVIA_DESCRIPTORS * p + d] = c;
+    unsigned others = counted(m, p, c, other);
+    unmapped(m, p, c, sort);
+    for (unsigned n = 0; n < POMTVIA_MAPPINGS; n++)
+        must(asked(m, kind, p, d, 0) == POMTVIA_ALLOW, "255 mappings of a sort are allowed");
+    check_full(m, kind, p, d);
+    must(asked(m, POMTVIA_UNMAP, p, c, sort) == POMTVIA_ALLOW, "one mapping less");
+    must(asked(m, POMTVIA_LABEL, 0, c, item) == POMTVIA_ALLOW, "a label");
+    must(!pomtvia_items(m, (uint8_t)(POMTVIA_FIRST_PROCESS + p), &set) && set >> item & 1, "the item comes to the process all the same");
+    must(asked(m, kind, p, d, 0) == POMTVIA_ALLOW, "one mapping more");
+    check_full(m, kind, p, d);
+    must(asked(m, POMTVIA_FORK, p, child, 0) == POMTVIA_ALLOW, "a fork");
+    check_full(m, kind, child, d);
+    must(counted(m, p, c, other) == others && counted(m, child, c, other) == others, "the other count is as it was");
+    must(unmapped(m, child, c, sort) == POMTVIA_MAPPINGS && unmapped(m, p, c, sort) == POMTVIA_MAPPINGS, "each counts its own");
+    must(guarded(l), "calls that count stay within the monitor");
 }
 
 /* Any log: bytes, or records of the tags. */
@@ -229,6 +314,8 @@ int main(int argc, char **argv)
         for (int call = 0; call < 8; call++)
             check_call(l, was);
         check_log(l, was);
+        if (k % COUNTED < 2)
+            check_counts(l, was);
         check_queries(l, was);
         memcpy(&l->monitor, was, sizeof *was);
         pomtvia_new(&l->monitor);

@@ -71,6 +71,11 @@ text.n{fill:#6b747c}
 text.w{text-anchor:middle;font-weight:bold;stroke:#fff;stroke-width:4;paint-order:stroke}
 .l.gone{stroke:#8b949c;stroke-width:2;stroke-dasharray:7 5}
 .a.gone{fill:#8b949c}
+.g{fill:#fff}
+text.q{font-weight:bold;fill:#6f451d}
+text.q.new{fill:#0a7d2c}
+text.q.less{fill:#b45309}
+text.e{text-anchor:end}
 """
 
 

@@ -4,7 +4,7 @@ from typing import Dict, FrozenSet, List, NamedTuple, Optional, Tuple, TypeVar
 
 from model.limits import CONTAINERS, FILES
 from model.records import Rule
-from model.tracker import State
+from model.tracker import MapKey, State
 from tools.provenance import Link
 
 Key = TypeVar("Key")
@@ -20,6 +20,7 @@ class Changes(NamedTuple):
     freed: List[int]  # and those that are no longer in use
     gained: Dict[int, FrozenSet[int]]  # items by container
     lost: Dict[int, FrozenSet[int]]
+    mapped: Dict[MapKey, Tuple[int, int]]  # how often before, and how often now
     linked: List[Link]
     unlinked: List[Link]
     names: "Moves[int]"
@@ -47,6 +48,13 @@ def items_more(less: State, more: State) -> Dict[int, FrozenSet[int]]:
     return {container: items for container, items in pairs if items}
 
 
+def counts_moved(before: State, after: State) -> Dict[MapKey, Tuple[int, int]]:
+    """The counts of mappings that are different now."""
+    keys = sorted({*before.mappings, *after.mappings})
+    counts = {key: (before.count(*key), after.count(*key)) for key in keys}
+    return {key: pair for key, pair in counts.items() if pair[0] != pair[1]}
+
+
 def changes_between(before: State, after: State) -> Changes:
     """What is different after a record."""
     used, used_after = before.used() & {*FILES}, after.used() & {*FILES}
@@ -57,6 +65,7 @@ def changes_between(before: State, after: State) -> Changes:
         sorted(used - used_after),
         items_more(before, after),
         items_more(after, before),
+        counts_moved(before, after),
         sorted(after.links - before.links),
         sorted(before.links - after.links),
         moves(before.names, after.names),

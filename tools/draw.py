@@ -9,10 +9,10 @@ from tools.boxes import token_elements
 from tools.explain import explain
 from tools.names import Own
 from tools.phrases import action_text, rule_text
-from tools.provenance import Step
-from tools.scene import HEAD, MARGIN, Contents, Painter, Plan, Scene, contents_of, head_element
-from tools.scene import make_plan, needed, pair_of
-from tools.views import View, view_at
+from tools.provenance import Link, Step
+from tools.scene import HEAD, MARGIN, Painter, Plan, Scene, contents_of, head_element, pair_of
+from tools.scene import plan_of
+from tools.views import View, count_text, view_at
 from tools.words import Words
 
 NARROWEST = 760.0
@@ -40,6 +40,10 @@ ARROW_KEY = [
     ("m", DONE, "this call"),
     ("m", STOPPED, "stopped"),
 ]
+COUNT_KEY = (
+    f"on an arrow, {count_text(2, 0)}: mapped twice; {count_text(2, 1)}: twice for reading and "
+    "once both ways; green: more often than before this record, amber: not so often"
+)
 
 
 def printable(name: str) -> str:
@@ -139,6 +143,8 @@ def foot(view: View, own: Own, width: float, y: float) -> Sheet:
         sheet.row(([chip(item)], words.own_name("item", item)) for item in named)
     sheet.row(([token], meaning) for token, meaning in KEY)
     arrow_key(sheet)
+    if view.labels():
+        sheet.text(COUNT_KEY)
     return sheet
 
 
@@ -161,18 +167,13 @@ def headings_text(plan: Plan) -> str:
     return "".join(element("text", text, sort="h", x=x, y=top - 9) for x, text in plan.headings)
 
 
-def plan_of(view: View, contents: Contents, top: float) -> Plan:
-    """The plan of one view."""
-    return make_plan(needed([contents]), {pair_of(link) for link in view.links()}, top)
-
-
 def svg_text(steps: List[Step], at: int, name: str, own: Own) -> str:
     """The state after a record as SVG."""
     view = view_at(steps, at)
     contents = contents_of(view, own)
-    width = max(NARROWEST, plan_of(view, contents, 0).width)
+    width = max(NARROWEST, plan_of([view], [contents], 0).width)
     above = head(view, len(steps), name, own, width)
-    plan = plan_of(view, contents, above.y)
+    plan = plan_of([view], [contents], above.y)
     below = foot(view, own, width, plan.height)
     height = below.y + MARGIN
     size = f'width="{number(width)}" height="{number(height)}"'
@@ -209,6 +210,14 @@ def dot_box(content: Content) -> str:
     return f"  c{content.container} [label={dot_string(lines)}];"
 
 
+def dot_edge(link: Link, mark: str, view: View) -> str:
+    """A link as an edge; that to the process says how often it is mapped."""
+    styles = {"": [], NEW: ['color="#0a7d2c"', "penwidth=2"], GONE: ["style=dashed"]}[mark]
+    label = view.labels().get(pair_of(link)) if pair_of(link) != link else None
+    said = [*styles, *([f'label="{label.text}"'] if label else [])]
+    return f"  c{link[0]} -> c{link[1]}{' [' + ', '.join(said) + ']' if said else ''};"
+
+
 def dot_text(steps: List[Step], at: int, name: str, own: Own) -> str:
     """The state after a record as Graphviz dot."""
     view = view_at(steps, at)
@@ -219,7 +228,5 @@ def dot_text(steps: List[Step], at: int, name: str, own: Own) -> str:
         '  fontname="monospace"; node [shape=box, fontname="monospace"];',
     ]
     lines += [dot_box(content) for content in contents_of(view, own).values()]
-    styles = {"": "", NEW: ' [color="#0a7d2c", penwidth=2]', GONE: " [style=dashed]"}
-    for (source, target), mark in sorted(view.links().items()):
-        lines.append(f"  c{source} -> c{target}{styles[mark]};")
+    lines += [dot_edge(link, mark, view) for link, mark in sorted(view.links().items())]
     return "\n".join([*lines, "}", ""])

@@ -5,9 +5,10 @@ from typing import Dict, List, NamedTuple, Optional, Tuple
 from model.limits import RULE_LIMIT, Kind, Refusal
 from model.logtext import REFUSAL_WORDS, record_text
 from model.records import Call, Rule, encode
-from model.tracker import ALLOW, CONTAINER, DESCRIPTOR, LACKED, LINK, NAME, Answer, broken_places
-from model.tracker import broken_rules, divert, divert_obstacle, judge, load_rule
+from model.tracker import ALLOW, CONTAINER, DESCRIPTOR, LACKED, MAPPING, NAME, Answer
+from model.tracker import broken_places, broken_rules, divert, divert_obstacle, judge, load_rule
 from tools.changes import Changes, changes_between
+from tools.mappings import counted_lines, lasting_links, mapping_changes
 from tools.names import NO_OWN, Own
 from tools.phrases import OBSTACLES, answer_meaning, hop_text, rule_text, sentence
 from tools.provenance import DONE, Moment, Origin, Step, chain, gifts_of
@@ -15,7 +16,7 @@ from tools.reasons import Case, Reason, failed_text, reason_of
 from tools.words import Words, joined, numbers_text, plural, short
 
 SHOWN_BYTES = 16  # of a raw value
-GIVING = (Kind.READ, Kind.WRITE, Kind.MAP_READ, Kind.MAP_BOTH)
+GIVING = (Kind.READ, Kind.WRITE)
 OFFERED = ("allow", "rule")  # answers to a record that does what it says
 
 Line = Tuple[int, str]  # how deep it stands, and the text
@@ -121,7 +122,7 @@ def obstacle_lines(words: Words, step: Step) -> List[Line]:
 PASTS: Dict[str, Tuple[str, str]] = {
     DESCRIPTOR: ("record {} closed it", "no earlier record opened it"),
     NAME: ("record {} unbound it", "no earlier record bound it"),
-    LINK: ("record {} ended the link", "no earlier record made one"),
+    MAPPING: ("record {} ended the last one", "no earlier record made one"),
     CONTAINER: ("record {} ended its use", "no earlier record brought it into use"),
 }
 
@@ -130,14 +131,14 @@ def past_text(step: Step, thing: str) -> str:
     """Since when the thing that field a of a call names is missing."""
     call = step.record
     keys = {
-        DESCRIPTOR: [(call.process, call.a)],
-        NAME: [(call.a,)],
-        LINK: [(call.caller, call.a), (call.a, call.caller)],
-        CONTAINER: [(call.a,)],
+        DESCRIPTOR: (call.process, call.a),
+        NAME: (call.a,),
+        MAPPING: (call.process, call.a, call.b),
+        CONTAINER: (call.a,),
     }
     ended, never = PASTS[thing]
-    records = [step.before.ended.get((thing, *key), 0) for key in keys[thing]]
-    return ended.format(max(records)) if any(records) else never
+    record = step.before.ended.get((thing, *keys[thing]))
+    return never if record is None else ended.format(record)
 
 
 def mended_lines(step: Step, reason: Reason) -> List[Line]:
@@ -165,6 +166,8 @@ def refusal_lines(words: Words, step: Step) -> List[Line]:
         failed = "; ".join(map(failed_text, reason.failed))
         word = REFUSAL_WORDS[reason.number]
         lines.append((0, f"with that mended, refused with {reason.number} ({word}): {failed}"))
+    if number in (Refusal.NO_LINK, Refusal.COUNT_FULL):
+        lines += [(0, text) for text in counted_lines(words, step)]
     if number in LACKED.values():
         lines.append((0, past_text(step, first.facts[0].thing)))
     if number == Refusal.BROKEN_ALREADY:
@@ -226,8 +229,10 @@ def change_lines(words: Words, step: Step) -> List[str]:
     lines += [f"{words.process(process)} is dead" for process in changes.ended]
     lines += [f"{words.container(container)} is in use" for container in changes.used]
     lines += item_changes(words, step, changes)
+    lines += mapping_changes(words, step, changes)
     lines += [f"link began: {words.link(*link)}" for link in changes.linked]
     lines += [f"link ended: {words.link(*link)}" for link in changes.unlinked]
+    lines += lasting_links(words, step, changes)
     lines += name_changes(words, changes)
     lines += descriptor_changes(words, changes)
     lines += [f"{words.container(container)} is no longer in use" for container in changes.freed]

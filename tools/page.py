@@ -15,7 +15,7 @@ from tools.draw import ANSWER_COLOURS, headings_text, printable, rule_lines
 from tools.explain import Explanation, explain
 from tools.names import Own
 from tools.provenance import Step
-from tools.scene import Painter, Scene, all_contents, make_plan, needed, pair_of
+from tools.scene import Painter, Scene, all_contents, plan_of
 from tools.views import View, views_of
 from tools.words import Words
 
@@ -72,7 +72,7 @@ def item_data(views: List[View], own: Own) -> Dict[int, Any]:
 def picture_data(views: List[View], own: Own) -> Dict[str, Any]:
     """The pictures: elements, places, and the differences from record to record."""
     contents = all_contents(views, own)
-    plan = make_plan(needed(contents), {pair_of(link) for view in views for link in view.links()})
+    plan = plan_of(views, contents)
     painter = Painter(plan)
     scenes = [painter.scene(view, boxes) for view, boxes in zip(views, contents)]
     table = Table()
@@ -89,9 +89,9 @@ def picture_data(views: List[View], own: Own) -> Dict[str, Any]:
 
 
 def drawing_order(key: str) -> Any:
-    """Links are drawn first, then what a call moved, then boxes."""
+    """Links are drawn first, then their labels, then what a call moved, then boxes."""
     sort, *numbers = key.split("-")
-    return ("link", "move", "container").index(sort), [int(number) for number in numbers]
+    return ("link", "label", "move", "container").index(sort), [int(number) for number in numbers]
 
 
 def page_data(steps: List[Step], at: int, name: str, own: Own) -> Dict[str, Any]:

@@ -12,7 +12,7 @@ from model.logtext import FORMS
 from model.records import Call, Rule
 from model.tracker import Answer, State
 from tools.provenance import Origin
-from tools.words import Words, set_words
+from tools.words import Words, set_words, sort_words
 
 
 class Verb:
@@ -46,9 +46,9 @@ CALLS: Dict[int, str] = {
     Kind.READ: "{process} {do:reads/read} from {through}",
     Kind.WRITE: "{process} {do:writes/write} to {through}",
     Kind.TRUNCATE: "{process} {do:truncates/truncate} {through}",
-    Kind.MAP_READ: "{process} {do:maps/map} {through}, to read",
+    Kind.MAP_READ: "{process} {do:maps/map} {through}, for reading",
     Kind.MAP_BOTH: "{process} {do:maps/map} {through}, both ways",
-    Kind.UNMAP: "{process} {do:unmaps/unmap} {container_a}",
+    Kind.UNMAP: "{process} {do:unmaps/unmap} {container_a}, one mapping {sort_b}",
     Kind.UNLINK: "{process} {do:unlinks/unlink} {name_a}",
     Kind.RENAME: "{process} {do:renames/rename} {name_a} to {name_b}",
     Kind.LINK: "{process} {do:makes/make} {name_b} lead where {name_a} leads",
@@ -61,7 +61,7 @@ CALLS: Dict[int, str] = {
 HOPS: Dict[int, str] = {
     Kind.READ: "{target} {do:reads/read} it from {giver}",
     Kind.WRITE: "{giver} {do:writes/write} it to {target}",
-    Kind.MAP_READ: "{target} {do:maps/map} {giver} to read",
+    Kind.MAP_READ: "{target} {do:maps/map} {giver} for reading",
     Kind.MAP_BOTH: "{process} {do:maps/map} {mapped} both ways",
     Kind.FORK: "{target} {do:is/be} forked from {giver}",
     Kind.LABEL: "it {do:comes/come} in from outside, by a label of {target}",
@@ -126,6 +126,7 @@ def call_text(words: Words, call: Call, state: State, done: bool) -> str:
         name_a=words.name(call.a),
         name_b=words.name(call.b),
         container_a=words.container(call.a),
+        sort_b=sort_words(call.b),
         device_b=words.container(call.b) if call.b in DEVICES else f"device {call.b}",
         child=words.process(call.a),
         item_b=words.item(call.b),

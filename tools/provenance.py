@@ -3,6 +3,9 @@
 An Origin says how a container got an item. It is made when the container gains
 the item and has the giver's own Origin of that moment, so the way of an item is
 a chain that ends at a label and that later records cannot change.
+
+Mappings of one sort are alike, and a log does not tell which of them an unmap ends.
+The latest is taken to end first, as callbacks that are nested end.
 """
 
 from typing import Any, Dict, Iterator, List, NamedTuple, Optional, Set, Tuple
@@ -10,8 +13,8 @@ from typing import Any, Dict, Iterator, List, NamedTuple, Optional, Set, Tuple
 from model.contents import gifts
 from model.limits import VALUE_LENGTHS, Kind, process_container
 from model.records import Call, decode, read_frame
-from model.tracker import ALLOW, CONTAINER, DESCRIPTOR, LINK, NAME, Answer, State, Tracker
-from model.tracker import work_out
+from model.tracker import ALLOW, CONTAINER, DESCRIPTOR, MAPPING, NAME, Answer, MapKey, State
+from model.tracker import Tracker, work_out
 
 Link = Tuple[int, int]
 Thing = Tuple[Any, ...]  # that a call can find missing: the model's word for it and its numbers
@@ -33,6 +36,7 @@ class Origin(NamedTuple):
 
 
 Origins = Dict[Tuple[int, int], Origin]  # by container and item
+Made = Dict[MapKey, Tuple[int, ...]]  # the record that made each mapping, the latest last
 
 
 class Moment(NamedTuple):
@@ -41,6 +45,7 @@ class Moment(NamedTuple):
     state: State
     origins: Origins
     began: Dict[Link, int]  # the record in which each link began
+    made: Made
     sorts: Dict[int, str]  # which containers were last made as files and which as pipes
     loaded: Tuple[int, ...]  # the record of each rule
     ended: Dict[Thing, int]  # the last record in which each thing ended
@@ -60,7 +65,7 @@ class Step(NamedTuple):
 
 def fresh() -> Moment:
     """The moment before the first record."""
-    return Moment(State(), {}, {}, {}, (), {})
+    return Moment(State(), {}, {}, {}, {}, (), {})
 
 
 def record_of(data: bytes) -> Any:
@@ -114,20 +119,27 @@ def grown(moment: Moment, after: State, number: int, call: Call, answer: Answer)
 
 
 def gone(before: State, after: State) -> Set[Thing]:
-    """What is closed, unbound, unlinked or out of use after a call and was not before it."""
+    """What is closed, unbound, unmapped or out of use after a call and was not before it."""
     return {
         *((DESCRIPTOR, *key) for key in before.descriptors.keys() - after.descriptors.keys()),
         *((NAME, name) for name in before.names.keys() - after.names.keys()),
-        *((LINK, *link) for link in before.links - after.links),
+        *((MAPPING, *key) for key in before.mappings.keys() - after.mappings.keys()),
         *((CONTAINER, container) for container in before.used() - after.used()),
     }
 
 
+def made_after(made: Made, after: State, number: int) -> Made:
+    """The records of the mappings after a call: new ones are its own, and the latest end first."""
+    kept = {key: made.get(key, ())[:count] for key, count in after.mappings.items()}
+    return {key: old + (number,) * (after.mappings[key] - len(old)) for key, old in kept.items()}
+
+
 def moved_on(moment: Moment, after: State, number: int, call: Call, answer: Answer) -> Moment:
     """The moment after a call that was done, or that would have been."""
-    began = moment.began
-    if after.links != moment.state.links:
+    began, made = moment.began, moment.made
+    if after.mappings != moment.state.mappings:
         began = {link: began.get(link, number) for link in after.links}
+        made = made_after(made, after, number)
     sorts = moment.sorts
     if call.kind in MADE:
         sorts = {**sorts, call.c: MADE[call.kind]}
@@ -135,7 +147,7 @@ def moved_on(moment: Moment, after: State, number: int, call: Call, answer: Answ
     if lost:
         ended = {**ended, **dict.fromkeys(lost, number)}
     origins = grown(moment, after, number, call, answer)
-    return Moment(after, origins, began, sorts, moment.loaded, ended)
+    return Moment(after, origins, began, made, sorts, moment.loaded, ended)
 
 
 def next_moment(moment: Moment, after: State, number: int, record: Any, answer: Answer) -> Moment:

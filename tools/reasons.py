@@ -10,14 +10,14 @@ makes the call, what it is done to and which item it is about stay.
 from typing import Any, Callable, Dict, List, NamedTuple, Optional, Sequence, Tuple
 
 from model import limits
-from model.limits import DESCRIPTORS, FILES, HEADER_LENGTH, ITEMS, NAMES, PROCESSES, RULE_LIMIT
-from model.limits import VALUE_LENGTHS, Kind, Refusal
-from model.logtext import FORMS, Form
+from model.limits import COUNT_LIMIT, DESCRIPTORS, FILES, HEADER_LENGTH, ITEMS, MAP_SORTS, NAMES
+from model.limits import PROCESSES, RULE_LIMIT, VALUE_LENGTHS, Kind, Refusal
+from model.logtext import FORMS, SORT, Form
 from model.records import CALL_FIELDS, RULE_ITEMS, Rule, read_frame, stated_length
-from model.tracker import CONTAINER, DESCRIPTOR, NAME, NEW_THINGS, PROCESS, UNUSED, Fact, State
-from model.tracker import first_refusal, forbids, frame_facts, record_facts, refusals
+from model.tracker import CONTAINER, DESCRIPTOR, MAPPED_SORTS, NAME, NEW_THINGS, PROCESS, UNUSED
+from model.tracker import Fact, State, first_refusal, forbids, frame_facts, record_facts, refusals
 from tools.phrases import WORD_OF_KIND
-from tools.words import Words, joined, numbers_text, plural, set_words
+from tools.words import Words, joined, numbers_text, plural, set_words, sort_words, times
 
 ENDS = ("from", "to")  # keys that do not say what they are keys to
 
@@ -159,11 +159,19 @@ def out_of_range(case: Case, fact: Fact) -> Failed:
         text = f"field {fact.field} is {value}, and {kind} does not use it"
         return Failed(text, fact.field, allowed, advice="it must be 0", offers=allowed)
     text = f"{FIELD_WORDS[case.record.kind][fact.field]} {value} is out of range"
+    if fact.allowed == MAP_SORTS:
+        known = f"sorts are {joined(map(sort_text, allowed))}"
+        return Failed(text, fact.field, allowed, advice=known)
     fitting = f"number{{s}} for {kind} there"
     return Failed(text, fact.field, allowed, fitting, offers=free_numbers(case, fact.field))
 
 
-# Rows 6 to 10, and 14 to 16 in 8's place: the state.
+def sort_text(sort: int) -> str:
+    """A sort of mapping by its number, and by its word in a text."""
+    return f"{sort} ({SORT.write(bytes([sort]))})"
+
+
+# Rows 6 to 10, 14 to 16 in 8's place, and 17 after 10: the state.
 
 
 def dead_process(case: Case, fact: Fact) -> Failed:
@@ -240,13 +248,17 @@ def name_unbound(case: Case, fact: Fact) -> Failed:
 
 
 def no_link(case: Case, fact: Fact) -> Failed:
-    """16: the caller does not map the container."""
-    caller = case.record.caller
-    owner, other = case.words.process(case.record.process), case.words.container(case.value(fact))
-    ends = {end for link in case.state.links if caller in link for end in link} - {caller}
-    text = f"there is no link between {owner} and {other}"
-    none = f"{owner} has no link at all: map a descriptor first"
-    return Failed(text, fact.field, sorted(ends), "container{s} linked with it", none)
+    """16: the caller has no mapping of the container that is of the sort in field b."""
+    state, (_, process, container, sort, _) = case.state, case.record
+    owner, how = case.words.process(process), sort_words(sort)
+    text = f"{owner} has no mapping of {case.words.container(container)} {how}"
+    others = [other for other in MAP_SORTS if state.count(process, container, other)]
+    if others:
+        has = f"it has some {sort_words(others[0])}, which is sort {sort_text(others[0])}"
+        return Failed(text, "b", others, advice=has)
+    mapped = sorted(key[1] for key in state.mappings if (key[0], key[2]) == (process, sort))
+    none = f"it maps nothing {how}: map a descriptor first"
+    return Failed(text, fact.field, mapped, f"container{{s}} that it maps {how}", none)
 
 
 def same_twice(case: Case, fact: Fact) -> Failed:
@@ -266,6 +278,21 @@ def no_file(case: Case, fact: Fact) -> Failed:
     files = [d for d in DESCRIPTORS if case.leads(d) in FILES]
     none = "only a file or a pipe can be truncated, and none is open"
     return Failed(text, fact.field, files, "one{s} with a file or pipe", none)
+
+
+def count_full(case: Case, fact: Fact) -> Failed:
+    """17: the mapping would be one too many."""
+    process, sort = case.record.process, MAPPED_SORTS[case.record.kind]
+    how = f"{sort_words(sort)} {times(COUNT_LIMIT)}"
+    what = f"{case.words.process(process)} maps {case.words.containers(fact.containers)}"
+    fewer = [
+        descriptor
+        for descriptor in DESCRIPTORS
+        for container in [case.leads(descriptor)]
+        if container is not None and case.state.count(process, container, sort) < COUNT_LIMIT
+    ]
+    text = f"{what} {how}, the most there can be: unmap it once first"
+    return Failed(text, fact.field, fewer, "descriptor{s} with fewer mappings")
 
 
 # Rows 11 and 12: rules.
@@ -312,6 +339,7 @@ WORDINGS: Dict[Refusal, Callable[[Case, Fact], Failed]] = {
     Refusal.NO_LINK: no_link,
     Refusal.SAME_TWICE: same_twice,
     Refusal.NO_FILE: no_file,
+    Refusal.COUNT_FULL: count_full,
     Refusal.RULES_FULL: rules_full,
     Refusal.BROKEN_ALREADY: broken_already,
 }

@@ -45,6 +45,7 @@ EPILOG = f"""what goes in:
   tag 13 hex, length 11   a rule as 11 hex, broken when a container outside the set
                           holds the item
   Action 0 inhibits, with substitute 0. Action 1 diverts a write to the substitute.
+  Field b of unmap (kind 13) is the sort of mapping that ends, 0 read or 1 both.
   Logs are easier to write as text: logs/ has some, and tools/logtool --help has the
   grammar, with a line for each kind of call. README.md leads to everything else.
 
@@ -62,7 +63,8 @@ what comes out, a line for each record:
 limits:
   containers 0 to 63 (devices 0 to 7, processes 8 to 23, files and pipes 24 to 63),
   items 0 to 63, processes 0 to 15, names 0 to 127, descriptors 0 to 31 in each
-  process, 32 rules
+  process, 32 rules, and for each process and container 255 mappings for reading and
+  255 both ways
 
 exit status:
   0  the log was run, whatever the answers are
@@ -85,6 +87,7 @@ NEXT = """Try next:
   ./runlog logs/rowers.log.txt              the same log, the program's lines alone
   ./runlog --show logs/run-b.log.txt        a write that a rule diverts, and two refusals
   ./runlog --show logs/evaluation.log.txt   copies, a move, an upload and a combination
+  ./runlog --show logs/callbacks.log.txt    a buffer mapped twice and unmapped once: its link stays
   tools/logtool explain logs/rowers.log.txt --only inhibit
                                             why these records are stopped, in words
   tools/logtool draw logs/rowers.log.txt -o /tmp/rowers.html

@@ -25,9 +25,9 @@ from model.checks import Checks, Options  # noqa: E402
 from model.choices import Choices  # noqa: E402
 from model.faults import EDGES  # noqa: E402
 from model.generate import MIXES, generate_records  # noqa: E402
-from model.records import frame_bytes  # noqa: E402
+from model.records import Call, frame_bytes  # noqa: E402
 from model.test_runs import RUN_B_INPUT, RUN_B_OUTPUT  # noqa: E402
-from model.tracker import State, Tracker  # noqa: E402
+from model.tracker import EFFECTS, State, Tracker  # noqa: E402
 
 DEFAULT_SEED = 20260
 LOGTOOL = [sys.executable, os.path.join(ROOT, "tools", "logtool")]
@@ -59,7 +59,10 @@ FORM_PAIRS = [
     ("truncate 0 descriptor=1", "10 0005 0a 00 01 00 00"),
     ("map-read 0 descriptor=1", "10 0005 0b 00 01 00 00"),
     ("map-both 0 descriptor=1", "10 0005 0c 00 01 00 00"),
-    ("unmap 0 container=24", "10 0005 0d 00 18 00 00"),
+    ("unmap 0 container=24 read", "10 0005 0d 00 18 00 00"),
+    ("unmap 0 container=24 both", "10 0005 0d 00 18 01 00"),
+    ("unmap 15 container=panel sort=2", "10 0005 0d 0f 01 02 00"),
+    ("unmap 0 container=24 sort=255", "10 0005 0d 00 18 ff 00"),
     ("unlink 0 name=5", "10 0005 0e 00 05 00 00"),
     ("rename 0 from=5 to=6", "10 0005 0f 00 05 06 00"),
     ("link 0 from=5 to=6", "10 0005 10 00 05 06 00"),
@@ -97,6 +100,10 @@ OTHER_TEXTS = [
     ("# a comment\rexit 0\r", "10 0005 12 00 00 00 00"),
     ("open descriptor=1 name=5 0 # any order", "10 0005 02 00 05 01 00"),
     ("device 0 descriptor=1 device=1", "10 0005 05 00 01 01 00"),
+    ("unmap read container=24 3", "10 0005 0d 03 18 00 00"),
+    ("unmap both 3 container=24", "10 0005 0d 03 18 01 00"),
+    ("unmap sort=0 3 container=24", "10 0005 0d 03 18 00 00"),
+    ("unmap 3 container=24 sort=1", "10 0005 0d 03 18 01 00"),
     ("label container=radio item=1", "10 0005 13 00 02 01 00"),
     ("forbid inhibit in=30,24-29,1,3,process0,1 item=1", "11 000b 01 000000007f00010a 00 00"),
     ("raw 10 00 05\nraw 01", "10 0005 01"),
@@ -113,6 +120,16 @@ BAD_TEXTS = [
     ("separate items=1,2", ["(inhibit | divert=CONTAINER) too"]),
     ("separate items=1,2 inhibit divert=3", ["'divert=3'", "only: separate"]),
     ("exit 0 1", ["'1'", "only: exit PROCESS"]),
+    (
+        "unmap 0 container=24",
+        ["'unmap 0 container=24'", "(read | both | sort=SORT) too, the sort of mapping that ends"],
+    ),
+    ("unmap 0 container=24 write", ["'write'", "only: unmap PROCESS container=CONTAINER (read"]),
+    ("unmap 0 container=24 read both", ["'both'", "only: unmap PROCESS"]),
+    ("unmap 0 container=24 read sort=0", ["'sort=0'", "only: unmap PROCESS"]),
+    ("unmap read container=24", ["'unmap read container=24'", "PROCESS too: unmap PROCESS"]),
+    ("unmap 0 container=24 sort=256", ["'sort=256'", "from 0 to 255"]),
+    ("unmap 0 container=24 sort=both", ["'sort=both'", "from 0 to 255"]),
     ("open 0 name=5 name=6 descriptor=1", ["'name=6'", "only: open PROCESS"]),
     ("open 0 nam=5 descriptor=1", ["'nam=5'", "only: open PROCESS name=NAME"]),
     ("start 256", ["'256'", "from 0 to 255"]),
@@ -461,7 +478,7 @@ def answer_lines(log: bytes) -> List[str]:
 
 def test_logs_get_their_answers(checks: Checks, options: Options) -> None:
     names = [os.path.basename(path)[: -len(".log.txt")] for path in LOGS]
-    checks.equal("logs", names, ["evaluation", "rowers", "run-b"])
+    checks.equal("logs", names, ["callbacks", "evaluation", "rowers", "run-b"])
     for name in names:
         expected = read_file(os.path.join(ROOT, "logs", f"{name}.expected")).decode()
         renew = f"tools/logtool assemble logs/{name}.log.txt | model/modelrun answers -"
@@ -495,6 +512,30 @@ def test_rowers(checks: Checks, options: Options) -> None:
     checks.equal("rowers: the two files", (held[26], held[27]), ({1}, {2}))
     with mock.patch.object(State, "reach", next_only):
         checks.equal("rowers: first link only", stopped("rowers"), [label])
+
+
+def unmap_all(state: State, call: Call) -> None:
+    """A wrong unmap: the first one ends every mapping."""
+    for sort in limits.MAP_SORTS:
+        state.mappings.pop((call.process, call.a, sort), None)
+
+
+def test_callbacks(checks: Checks, options: Options) -> None:
+    write = ("write 0 descriptor=1", "inhibit 0")
+    checks.equal("callbacks: stopped", stopped("callbacks"), [write])
+    state = state_after(named_log("callbacks"))
+    held = [state.items[container] for container in (24, 25, 26, 8)]
+    checks.equal("callbacks: what is held", held, [{1}, {1}, {2}, {2}])
+    checks.equal("callbacks: mappings", state.mappings, {})
+    with mock.patch.dict(EFFECTS, {limits.Kind.UNMAP: unmap_all}):
+        checks.equal("callbacks: the first unmap ends all", stopped("callbacks"), [])
+    shown = command(["show", os.path.join(ROOT, "logs", "callbacks.log.txt")]).output.decode()
+    for line in (
+        " 9  allow                          unmap 0 container=24 read\n",
+        "14  allow                          unmap 0 container=24 both\n",
+        "15  refused 16 (no link to unmap)  unmap 0 container=24 both\n",
+    ):
+        checks.true(f"callbacks: shows {line.strip()}", line in shown, shown)
 
 
 def test_evaluation(checks: Checks, options: Options) -> None:

@@ -2,11 +2,18 @@
 
 from typing import Dict, FrozenSet, Iterable, List, NamedTuple, Optional, Set
 
-from model.limits import CONTAINERS, DEVICES, DIVERT_ACTION, FORBID_TAG, PROCESS_CONTAINERS
-from model.limits import process_container
+from model.limits import CONTAINERS, DEVICES, DIVERT_ACTION, FORBID_TAG, MAP_SORTS
+from model.limits import PROCESS_CONTAINERS, process_container
 from model.tracker import ALLOW, State, broken_places, forbids
 from tools.changes import Changes, changes_between
 from tools.provenance import BREAKING, DONE, Link, Moment, Step, fresh, gifts_of
+
+
+class Label(NamedTuple):
+    """How often a container is mapped, as it stands on the link."""
+
+    text: str
+    mark: str = ""  # new: more often than before the record; less: not so often
 
 
 class View(NamedTuple):
@@ -72,6 +79,26 @@ class View(NamedTuple):
         marks.update({link: "new" for link in self.changes.linked})
         marks.update({link: "gone" for link in self.changes.unlinked})
         return marks
+
+    def labels(self) -> Dict[Link, Label]:
+        """The links that say how often they are mapped, by the ends, the process first.
+
+        These are mapped more than once, by one sort or by both, or were before the record.
+        """
+        state, found = self.moment.state, {}
+        changed = {key[:2]: after > before for key, (before, after) in self.changes.mapped.items()}
+        for process, container in sorted({key[:2] for key in state.mappings}):
+            counts = [state.count(process, container, sort) for sort in MAP_SORTS]
+            more = changed.get((process, container))
+            if sum(counts) > 1 or more is False:
+                mark = "" if more is None else "new" if more else "less"
+                found[process_container(process), container] = Label(count_text(*counts), mark)
+        return found
+
+
+def count_text(read: int, both: int) -> str:
+    """Counts of mappings in short; the sort is said where there are both."""
+    return f"read {read}, both {both}" if read and both else f"{read + both}\u00d7"
 
 
 def named_devices(state: State) -> Set[int]:

@@ -2,11 +2,13 @@
 
 from typing import Dict, Iterable, List, Optional
 
-from model.limits import DEVICES, PROCESSES, PROCESS_CONTAINERS, process_container
+from model.limits import DEVICES, PROCESSES, PROCESS_CONTAINERS, MapSort, process_container
 from model.logtext import CONTAINER_NAMES, DEVICE_NAMES, set_text
 from tools.names import NO_OWN, Own
 
 MOST_NAMED = 4  # items in a row that are named one by one
+SORTS = {MapSort.MAPPED_READ: "for reading", MapSort.MAPPED_BOTH: "both ways"}
+TIMES = {1: "once", 2: "twice"}
 
 
 def joined(parts: Iterable[str], last: str = "and") -> str:
@@ -23,6 +25,16 @@ def numbers_text(numbers: Iterable[int]) -> str:
 def plural(word: str, numbers: List[int]) -> str:
     """A word before its numbers."""
     return f"{word}{'s' if len(numbers) > 1 else ''} {numbers_text(numbers)}"
+
+
+def sort_words(sort: int) -> str:
+    """What a sort of mapping is for."""
+    return SORTS.get(sort, f"of sort {sort}")
+
+
+def times(count: int) -> str:
+    """How often: once, twice, 3 times."""
+    return TIMES.get(count, f"{count} times")
 
 
 class Words:

@@ -20,6 +20,7 @@ from tests.logtests.wrong import FAULTS, make_program
 COMMAND = ROOT / "runlog"
 STORY = ROOT / "logs" / "rowers.log.txt"
 RUN_B_TEXT = ROOT / "logs" / "run-b.log.txt"
+CALLBACKS = ROOT / "logs" / "callbacks.log.txt"
 COPIED = ("runlog", "tools", "model", "logs")
 
 # Stands in for rt: notes its arguments, and puts a program where rt would.
@@ -122,7 +123,10 @@ def test_demonstration(checks: Checks, program: Optional[str]) -> None:
         check_shown(checks, "demonstration", result, log, model_lines(log))
         stopped = [line for line in result.output.splitlines() if line.startswith("* inhibit 0")]
         checks.equal("runlog, demonstration: stopped", len(stopped), 2)
-        checks.true("runlog, demonstration: what next", "Try next:" in result.output)
+        after = result.output.partition("Try next:")[2]
+        for text in sorted((ROOT / "logs").glob("*.log.txt")):
+            offered = f"logs/{text.name}" in after
+            checks.true(f"runlog, demonstration: offers {text.name} next", offered, after)
         wrong = make_program(here.folder / "wrong", FAULTS["follows one link"])
         result = Room(here.folder, wrong).run([])
         answers = model_lines(log)
@@ -136,6 +140,11 @@ def test_show(checks: Checks, program: Optional[str]) -> None:
         answers = RUN_B_OUTPUT.splitlines()
         for name in (here.file("b.log", RUN_B_INPUT), str(RUN_B_TEXT)):
             check_shown(checks, f"--show {name}", here.run(["--show", name]), RUN_B_INPUT, answers)
+        log = assemble(CALLBACKS.read_bytes())
+        result = here.run(["--show", str(CALLBACKS)])
+        check_shown(checks, "--show callbacks", result, log, model_lines(log))
+        for part in ("unmap 0 container=24 read", "unmap 0 container=24 both", "* inhibit 0"):
+            checks.true(f"runlog, --show callbacks: {part}", part in result.output, result.output)
         split = here.file("split.txt", b"raw 10 00\nraw 05 01 00 00 00 00\n")
         start = bytes.fromhex("10 0005 0100000000")
         result = here.run(["--show", split])
@@ -150,6 +159,7 @@ def test_help(checks: Checks, program: Optional[str]) -> None:
             checks.equal(f"runlog {words}: status", (result.status, result.messages), (0, ""))
             parts = ["tag 10 hex", "allow", "inhibit", "modify", "rule", "refused", "65,536"]
             parts += ["cut short", "broken already", "32 rules", "exit status", ".txt", "logtool"]
+            parts += ["count at 255", "255 mappings for reading", "0 read or 1 both"]
             for part in parts:
                 checks.true(f"runlog {words}: says {part}", part in result.output)
             listed = re.findall(r"^ {4}([ \d]\d)  \w", result.output, re.M)

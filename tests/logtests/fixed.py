@@ -1,5 +1,6 @@
 """Tests of a log program on fixed logs. Each takes the counts of checks and the program's path."""
 
+import re
 import subprocess
 import time
 from pathlib import Path
@@ -18,7 +19,7 @@ from tests.logtests.shorten import report
 RUNS = ROOT / "tests" / "logtests" / "runs.txt"
 RUN_NAMES = "CDEFGHIJKLMN"
 PAPERS = ROOT / "tests" / "logtests" / "papers.txt"
-PAPER_NUMBERS = {"2", "3"}
+PAPER_NUMBERS = {"2", "3", "4"}
 LOGS = ROOT / "logs"
 PAUSE = 0.05  # seconds between two pieces of an input
 CUT = f"refused {Refusal.CUT_SHORT}"
@@ -40,7 +41,7 @@ write 0 descriptor=3
 truncate 0 descriptor=1
 map-read 0 descriptor=0
 map-both 0 descriptor=1
-unmap 0 container=24
+unmap 0 container=24 read
 link 0 from=5 to=6
 rename 0 from=6 to=7
 unlink 0 name=7
@@ -87,8 +88,9 @@ def read_runs(path: Path, front: str) -> Runs:
             name = line
             runs[name] = []
         elif line.strip() and not line.startswith("#"):
-            record, _, answer = line.partition("=>")
-            runs[name].append((assemble_line(record), answer.strip()))
+            said, _, answer = line.partition("=>")
+            times, record = re.fullmatch(r"(?:(\d+) times )?(.*)", said).groups()
+            runs[name] += [(assemble_line(record), answer.strip())] * int(times or 1)
     return runs
 
 
@@ -123,7 +125,7 @@ def test_demonstration_logs(checks: Checks, program: str) -> None:
     tools/logtool assemble logs/NAME.log.txt | model/modelrun answers - >logs/NAME.expected
     """
     texts = sorted(LOGS.glob("*.log.txt"))
-    checks.true("there are demonstration logs", len(texts) >= 3)
+    checks.true("there are demonstration logs", len(texts) >= 4)
     for text in texts:
         name = text.name[: -len(".log.txt")]
         wanted = (LOGS / f"{name}.expected").read_text().splitlines()

@@ -16,6 +16,8 @@ from tests.logtests.compare import difference, model_lines, program_output
 # Answers show only what rules judge. So rules are also used to see who holds an item: one against
 # a single holder is refused as broken already, and one against all others is loaded.
 RECORDS = 180  # of a random log, before its tail
+LONG_RECORDS = 480  # of a log in which a count of mappings climbs to its limit
+LONG_EVERY = 20  # logs, one of which is long
 AIMED = 0.08  # how often a write that breaks a loaded rule is planned
 PROBED = 0.06  # how often a rule asks for a holder
 TAIL = 30  # records at the end that ask for holders, about so many
@@ -27,10 +29,13 @@ CALL_LENGTH = len(frame_bytes(CALL_TAG, bytes(VALUE_LENGTHS[CALL_TAG])))
 
 
 class LogGenerator(Generator):
-    """Records of every sort; `first` rules come first, and no more are loaded than `most`."""
+    """Records of every sort; `first` rules come first, and no more are loaded than `most`.
 
-    def __init__(self, seed: int, mix: str, first: int, most: int) -> None:
-        super().__init__(seed, mix)
+    If it is to be long, a count of mappings climbs to its limit.
+    """
+
+    def __init__(self, seed: int, mix: str, first: int, most: int, length: int = 0) -> None:
+        super().__init__(seed, mix, length)
         self.first = first
         self.most = most
 
@@ -132,18 +137,19 @@ class LogGenerator(Generator):
         return not frame_refusals(state, read_frame(data))
 
 
-def log_generator(seed: int) -> LogGenerator:
+def log_generator(seed: int, length: int = 0) -> LogGenerator:
     """The generator of a seed: mix and rules go by the seed too."""
     choices = Choices(seed)
     most = choices.weighted([(RULE_LIMIT, 4), (choices.below(RULE_LIMIT + 1), 4), (0, 1)])
     first = choices.pick([0, choices.below(most + 1)])
-    return LogGenerator(seed, list(MIXES)[seed % len(MIXES)], first, most)
+    return LogGenerator(seed, list(MIXES)[seed % len(MIXES)], first, most, length)
 
 
 def random_log(seed: int) -> bytes:
     """The log of a seed; the last record may be cut short."""
-    generator = log_generator(seed)
-    records = [generator.record() for _ in range(RECORDS)]
+    count = RECORDS if seed % LONG_EVERY else LONG_RECORDS
+    generator = log_generator(seed, count)
+    records = [generator.record() for _ in range(count)]
     if len(generator.tracker.state.rules) < RULE_LIMIT:
         records += generator.tail()
     if generator.choices.chance(generator.mix.cut):
@@ -239,7 +245,7 @@ class Result(NamedTuple):
 
 
 def counts_of(log: bytes, answers: List[str]) -> Counter:
-    """What the records got: words, refusals, kinds of call done, tags of rules, rules in all."""
+    """What the records got: words, refusals, kinds done, sorts unmapped, tags of rules, rules."""
     counts: Counter = Counter(records=len(answers))
     for record, answer in zip(split_records(log), answers):
         word = answer.split()[0]
@@ -250,6 +256,8 @@ def counts_of(log: bytes, answers: List[str]) -> Counter:
             counts[f"rule of tag {record[0]:02x}"] += 1
         elif word == "allow":
             counts[f"kind {record[3]}"] += 1
+            if record[3] == Kind.UNMAP:
+                counts[f"unmap of sort {record[6]}"] += 1
     counts[f"table of {counts['rule']}"] += 1
     return counts
 

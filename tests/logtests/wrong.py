@@ -57,9 +57,9 @@ tracker.divert_obstacle = divert_obstacle
     "leaves a dead process's links": """
 right_exit = tracker.EFFECTS[Kind.EXIT]
 def exit_process(state, call):
-    links = state.links
+    mappings = state.mappings
     right_exit(state, call)
-    state.links = links
+    state.mappings = mappings
 tracker.EFFECTS[Kind.EXIT] = exit_process
 """,
     "lays the links of a map both that is inhibited": """
@@ -69,7 +69,7 @@ def judge_linked(state, call):
     if call.kind == Kind.MAP_BOTH and answer.word == "inhibit":
         after = state.copy()
         container = state.descriptors[call.process, call.a]
-        after.links |= {(container, call.caller), (call.caller, container)}
+        after.mappings[call.process, container, MapSort.MAPPED_BOTH] = 1
     return answer, after
 tracker.judge = judge_linked
 """,
@@ -84,13 +84,98 @@ def first_refusal(numbers):
     return right_first(later)
 tracker.first_refusal = first_refusal
 """,
+    "ends every mapping at the first unmap": """
+def unmap(state, call):
+    for sort in MapSort:
+        state.mappings.pop((call.process, call.a, sort), None)
+tracker.EFFECTS[Kind.UNMAP] = unmap
+""",
+    "keeps one count for both sorts": """
+right_map = tracker._raise_count
+def raise_count(state, call):
+    right_map(state, call)
+    container = state.descriptors[call.process, call.a]
+    keys = [(call.process, container, sort) for sort in MapSort]
+    if keys[1] in state.mappings:
+        state.mappings[keys[1]] += state.mappings.pop(keys[0], 0)
+def unmap(state, call):
+    keys = [(call.process, call.a, sort) for sort in MapSort]
+    right_unmap(state, call._replace(b=int(keys[1] in state.mappings)))
+def is_there(state, call, thing, number):
+    sorts = MapSort if thing == tracker.MAPPING else [call.b]
+    return any(right_there(state, call._replace(b=sort), thing, number) for sort in sorts)
+right_unmap, right_there = tracker.EFFECTS[Kind.UNMAP], tracker.is_there
+tracker._raise_count, tracker.is_there = raise_count, is_there
+tracker.EFFECTS[Kind.UNMAP] = unmap
+""",
+    "counts mappings on from 255 to 0": """
+right_map = tracker._raise_count
+def raise_count(state, call):
+    right_map(state, call)
+    state.mappings = {key: count for key, count in state.mappings.items() if count < 256}
+tracker._raise_count, tracker.COUNT_LIMIT = raise_count, 256
+""",
+    "counts a two-way mapping as one for reading too": """
+right_map = tracker._raise_count
+def raise_count(state, call):
+    right_map(state, call)
+    if call.kind == Kind.MAP_BOTH:
+        key = (call.process, state.descriptors[call.process, call.a], MapSort.MAPPED_READ)
+        state.mappings[key] = min(255, state.mappings.get(key, 0) + 1)
+tracker._raise_count = raise_count
+""",
+    "forks without mappings": """
+right_fork = tracker.EFFECTS[Kind.FORK]
+def fork(state, call):
+    mappings = dict(state.mappings)
+    right_fork(state, call)
+    state.mappings = mappings
+tracker.EFFECTS[Kind.FORK] = fork
+""",
+    "forks with one mapping of each": """
+right_fork = tracker.EFFECTS[Kind.FORK]
+def fork(state, call):
+    right_fork(state, call)
+    for key in state.mappings:
+        if key[0] == call.a:
+            state.mappings[key] = 1
+tracker.EFFECTS[Kind.FORK] = fork
+""",
+    "looks for the other sort to unmap": """
+right_there = tracker.is_there
+def is_there(state, call, thing, number):
+    return right_there(state, call._replace(b=1 - call.b), thing, number)
+def unmap(state, call):
+    right_unmap(state, call._replace(b=1 - call.b))
+right_unmap = tracker.EFFECTS[Kind.UNMAP]
+tracker.is_there = is_there
+tracker.EFFECTS[Kind.UNMAP] = unmap
+""",
+    "unmaps where the other sort is mapped": """
+right_there, right_unmap = tracker.is_there, tracker.EFFECTS[Kind.UNMAP]
+def is_there(state, call, thing, number):
+    sorts = MapSort if thing == tracker.MAPPING else [call.b]
+    return any(right_there(state, call._replace(b=sort), thing, number) for sort in sorts)
+def unmap(state, call):
+    if (call.process, call.a, call.b) in state.mappings:
+        right_unmap(state, call)
+tracker.is_there = is_there
+tracker.EFFECTS[Kind.UNMAP] = unmap
+""",
+    "answers 17 before 5": """
+right_first = tracker.first_refusal
+def first_refusal(numbers):
+    full = Refusal.COUNT_FULL
+    return full if full in numbers else right_first(numbers)
+tracker.first_refusal = first_refusal
+""",
 }
 
 PROGRAM = """#!{python} -S
 import sys
 sys.path.insert(0, {folder!r})
 from model import tracker
-from model.limits import LOG_LIMIT, Kind, Refusal
+from model.limits import LOG_LIMIT, Kind, MapSort, Refusal
 {fault}
 log = sys.stdin.buffer.read(LOG_LIMIT + 1)
 if len(log) > LOG_LIMIT:

@@ -20,8 +20,20 @@ function note(action) {
   });
 }
 
+// The labels of links that lie over a box.
+function coveredTexts(group) {
+  const frames = [...document.querySelectorAll('#picture g[id^="container"] rect.b')];
+  const boxes = frames.map(frame => frame.getBoundingClientRect());
+  return [...group.querySelectorAll("text")].filter(text => {
+    const one = text.getBoundingClientRect();
+    return boxes.some(two => one.left < two.right && two.left < one.right &&
+      one.top < two.bottom && two.top < one.bottom);
+  }).map(text => `${group.id}: ${text.textContent}`);
+}
+
 // The texts of a box that do not fit into it, as the browser measures them.
 function wideTexts(group) {
+  if (group.id.startsWith("label")) return coveredTexts(group);
   const frame = group.querySelector("rect");
   if (!group.id.startsWith("container") || !frame) return [];
   const right = frame.getBBox().width, bottom = frame.getBBox().height;

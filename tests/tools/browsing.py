@@ -95,6 +95,7 @@ def expected(steps: List[Step], views: List[View], own: Own, here: int) -> Dict[
     pairs = {pair_of(link) for link in view.links()}
     groups = {f"container-{container}" for container in view.shown()}
     groups.update(f"link-{process}-{other}" for process, other in pairs)
+    groups.update(f"label-{process}-{other}" for process, other in view.labels())
     groups.update(f"move-{giver}-{target}" for giver, target in view.moves())
     shown: Dict[str, Any] = {
         "count": f"record {here} of {last}",

@@ -1,9 +1,11 @@
 """Tests of draw: the pictures' form, marks and layout, and the command."""
 
+import json
 import re
 import tempfile
 from pathlib import Path
 from typing import Iterator, List, Set, Tuple
+from unittest import mock
 from xml.etree import ElementTree
 
 from model import limits
@@ -11,7 +13,7 @@ from model.limits import Kind
 from model.logtext import assemble
 from model.records import Call, confine, encode, forbid, separate
 from tests.tools.session import LOGS, STORIES, Session, logtool, story_names, story_steps
-from tools import boxes
+from tools import boxes, scene
 from tools.draw import dot_text, svg_text
 from tools.names import NO_OWN
 from tools.page import html_text
@@ -39,6 +41,17 @@ def drawn_links(svg: ElementTree.Element) -> Set[Tuple[int, int]]:
     """The pairs that are joined, the process first."""
     keys = [key.split("-")[1:] for key in groups_of(svg) if key.startswith("link-")]
     return {(int(process), int(other)) for process, other in keys}
+
+
+def drawn_labels(svg: ElementTree.Element) -> dict:
+    """What stands on links, by the pair, each with its marks."""
+    found = {}
+    for key, group in groups_of(svg).items():
+        if key.startswith("label-"):
+            text = group.find(f"{SVG}text")
+            process, other = map(int, key.split("-")[1:])
+            found[process, other] = (text.text, {*text.get("class").split()} - {"q", "e"})
+    return found
 
 
 def drawn_items(svg: ElementTree.Element, container: int) -> Set[int]:
@@ -71,12 +84,50 @@ def areas_of(svg: ElementTree.Element) -> List[Area]:
     return found
 
 
+def text_width(text: ElementTree.Element) -> float:
+    """How wide a text is, at least."""
+    size = boxes.TITLE_SIZE if "t" in text.get("class", "").split() else boxes.TEXT_SIZE
+    return len(text.text or "") * size * boxes.CHARACTER
+
+
 def text_right(text: ElementTree.Element) -> float:
     """Where a text ends, at least."""
-    sorts = text.get("class", "").split()
-    size = boxes.TITLE_SIZE if "t" in sorts else boxes.TEXT_SIZE
-    room = len(text.text or "") * size * boxes.CHARACTER
-    return float(text.get("x")) + (room / 2 if "c" in sorts else room)
+    room = text_width(text)
+    middle = "c" in text.get("class", "").split()
+    return float(text.get("x")) + (room / 2 if middle else room)
+
+
+def text_area(text: ElementTree.Element) -> Area:
+    """Where a text on a link or an arrow stands."""
+    sorts, width = text.get("class").split(), text_width(text)
+    before = {"w": width / 2, "e": width}
+    left = float(text.get("x")) - next((before[sort] for sort in before if sort in sorts), 0)
+    bottom = float(text.get("y"))
+    return left, bottom - boxes.TEXT_SIZE * 0.8, left + width, bottom
+
+
+def over(one: Area, two: Area) -> bool:
+    """Whether two areas have a place in common."""
+    return one[0] < two[2] and two[0] < one[2] and one[1] < two[3] and two[1] < one[3]
+
+
+def texts_between(svg: ElementTree.Element, sort: str) -> List[ElementTree.Element]:
+    """The texts on links (label) or on arrows (move)."""
+    groups = [group for key, group in groups_of(svg).items() if key.startswith(f"{sort}-")]
+    return [text for group in groups for text in group.iter(f"{SVG}text")]
+
+
+def label_faults(svg: ElementTree.Element) -> Iterator[str]:
+    """Labels of links that are over boxes, or over each other."""
+    labels = [(text.text, text_area(text)) for text in texts_between(svg, "label")]
+    for number, (text, area) in enumerate(labels):
+        if area[0] < 0 or area[2] > float(svg.get("width")):
+            yield f"label '{text}' outside the picture"
+        if any(over(area, box) for box in areas_of(svg)):
+            yield f"label '{text}' over a box"
+        for other, place in labels[:number]:
+            if over(area, place):
+                yield f"label '{text}' over '{other}'"
 
 
 def layout_faults(svg: ElementTree.Element) -> Iterator[str]:
@@ -87,8 +138,9 @@ def layout_faults(svg: ElementTree.Element) -> Iterator[str]:
         if one[0] < 0 or one[1] < 0 or one[2] > width or one[3] > height:
             yield f"box {one} outside {width} x {height}"
         for two in areas[:number]:
-            if one[0] < two[2] and two[0] < one[2] and one[1] < two[3] and two[1] < one[3]:
+            if over(one, two):
                 yield f"box {one} over {two}"
+    yield from label_faults(svg)
     for key, group in groups_of(svg).items():
         frame = group.find(f"{SVG}rect")
         for text in group.iter(f"{SVG}text") if key.startswith("container-") else ():
@@ -182,9 +234,21 @@ MARKED = [
     ),
     (
         "start 0\ndevice 0 descriptor=1 device=panel\nmap-both 0 descriptor=1\n"
-        "close 0 descriptor=1\nunmap 0 container=panel",
+        "close 0 descriptor=1\nunmap 0 container=panel both",
         "link-8-1",
         {"l", "gone"},
+    ),
+    (
+        "start 0\ndevice 0 descriptor=1 device=panel\nmap-read 0 descriptor=1\n"
+        "map-read 0 descriptor=1",
+        "label-8-1",
+        {"q", "new"},
+    ),
+    (
+        "start 0\ndevice 0 descriptor=1 device=panel\nmap-read 0 descriptor=1\n"
+        "map-read 0 descriptor=1\nunmap 0 container=panel read",
+        "label-8-1",
+        {"q", "less"},
     ),
     ("forbid item=3 in=panel inhibit", "container-1", {"never"}),
     ("forbid item=3 in=panel divert=port", "container-3", {"device"}),
@@ -239,8 +303,91 @@ def test_marks(session: Session) -> None:
         later = groups_of(parsed(steps_of_text(text + "\nexit 15"), len(steps) + 1))
         found = sorts_in(later[key]) if key in later else set()
         session.checks.true(
-            f"{name}, one record on", not found & {"new", "gone", "stopped"}, str(found)
+            f"{name}, one record on", not found & {"new", "gone", "stopped", "less"}, str(found)
         )
+
+
+# What is mapped, each with what stands on the link afterwards, and its mark.
+ONE = "start 0\ncreate 0 name=5 descriptor=0 container=24\nmap-read 0 descriptor=0\n"
+LABELS = [
+    (ONE, None),
+    (ONE + "map-read 0 descriptor=0", ("2\u00d7", {"new"})),
+    (ONE + "map-read 0 descriptor=0\nexit 9", ("2\u00d7", set())),
+    (ONE + "map-read 0 descriptor=0\nunmap 0 container=24 read", ("1\u00d7", {"less"})),
+    (ONE + "map-read 0 descriptor=0\nunmap 0 container=24 read\nexit 9", None),
+    (ONE + "map-both 0 descriptor=0", ("read 1, both 1", {"new"})),
+    (ONE + "map-both 0 descriptor=0\nunmap 0 container=24 both", ("1\u00d7", {"less"})),
+    (ONE + "map-both 0 descriptor=0\nunmap 0 container=24 read", ("1\u00d7", {"less"})),
+    (
+        ONE + "map-both 0 descriptor=0\nmap-read 0 descriptor=0\nunmap 0 container=24 both\n"
+        "map-both 0 descriptor=0\nexit 9",
+        ("read 2, both 1", set()),
+    ),
+    (ONE + "unmap 0 container=24 read", None),
+    (ONE + "map-both 0 descriptor=0\n" * 255, ("read 1, both 255", {"new"})),
+    (
+        ONE + "map-both 0 descriptor=0\n" * 255 + "map-read 0 descriptor=0\n" * 254 + "exit 9",
+        ("read 255, both 255", set()),
+    ),
+]
+
+
+def test_labels(session: Session) -> None:
+    """How often a container is mapped stands on the link, where that says something."""
+    for text, wanted in LABELS:
+        steps = steps_of_text(text)
+        name = f"label after {len(steps)} records, '{text.splitlines()[-1]}'"
+        svg = parsed(steps, len(steps))
+        session.checks.equal(name, drawn_labels(svg).get((8, 24)), wanted)
+        session.checks.equal(f"{name}: layout", list(layout_faults(svg)), [])
+        words = [text_area(text) for text in texts_between(svg, "move")]
+        labels = [text_area(text) for text in texts_between(svg, "label")]
+        clear = not any(over(word, label) for word in words for label in labels)
+        session.checks.true(f"{name}: the word of the call stands clear of it", clear)
+        key = [text.text for text in svg.iter(f"{SVG}text") if "mapped twice" in text.text]
+        session.checks.equal(f"{name}: it is explained", len(key), int(wanted is not None))
+        lines = dot_text(steps, len(steps), "a log", NO_OWN).splitlines()
+        labelled = [line for line in lines if line.startswith("  c24 -> c8") and "label=" in line]
+        there = wanted is not None and any(f'label="{wanted[0]}"' in line for line in labelled)
+        session.checks.equal(f"{name}: in dot", there, wanted is not None)
+        page = html_text(steps, len(steps), "a log", NO_OWN)
+        said = json.dumps(f">{wanted[0]}</text>")[1:-1] if wanted else ""
+        session.checks.true(f"{name}: on the page", said.replace("<", "\\u003c") in page)
+
+
+def test_way_back_alone(session: Session) -> None:
+    """Where the way back ends alone, the link is drawn as one that stays."""
+    steps = steps_of_text(ONE + "map-both 0 descriptor=0\nunmap 0 container=24 both")
+    group = groups_of(parsed(steps, len(steps)))["link-8-24"]
+    sorts = [part.get("class") for part in group]
+    session.checks.equal("the way back ends", sorts, ["l", "a", "a gone"])
+
+
+def crowded_labels() -> bytes:
+    """A log in which each of many links has a label, at both sides of the processes."""
+    records = [Call(Kind.START, process) for process in range(4)]
+    for place, container in enumerate(range(24, 54)):
+        records.append(Call(Kind.CREATE, place % 4, place, 0 if place < 4 else place, container))
+    for place in range(30):
+        for process in (place % 4, (place + 1) % 4):
+            records.append(Call(Kind.OPEN, process, place, 31))
+            records += [Call(Kind.MAP_BOTH, process, 31)] * 2 + [Call(Kind.MAP_READ, process, 31)]
+            records.append(Call(Kind.CLOSE, process, 31))
+    return b"".join(map(encode, records))
+
+
+def test_crowded_labels(session: Session) -> None:
+    """Labels of many links stand clear of each other."""
+    steps = list(steps_of(crowded_labels()))
+    session.checks.equal("labels: all done", {s.answer.word for s in steps}, {"allow"})
+    svg = parsed(steps, len(steps))
+    labels = drawn_labels(svg)
+    session.checks.equal("labels: one for each link", len(labels), 60)
+    session.checks.equal("labels: texts", {text for text, _ in labels.values()}, {"read 1, both 2"})
+    session.checks.equal("labels: layout", list(layout_faults(svg)), [])
+    with mock.patch.object(scene, "end_room", lambda *given: scene.END_ROOM):
+        faults = list(layout_faults(parsed(steps, len(steps))))
+    session.checks.true("labels: too little room is found", bool(faults))
 
 
 def test_idle_devices(session: Session) -> None:

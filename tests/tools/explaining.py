@@ -18,6 +18,11 @@ LIVE = "start 0\n"
 FILE = LIVE + "create 0 name=5 descriptor=0 container=24\n"
 HELD = FILE + "label container=24 item=1\n"
 PANEL = HELD + "device 0 descriptor=1 device=panel\nread 0 descriptor=0\n"
+READ_MAPPED = FILE + "map-read 0 descriptor=0\n"
+BOTH_MAPPED = FILE + "map-both 0 descriptor=0\n"
+NESTED = READ_MAPPED + "map-read 0 descriptor=0\n"
+MIXED = READ_MAPPED + "map-both 0 descriptor=0\n"
+FULL = FILE + "map-read 0 descriptor=0\n" * 255
 ALL_OPEN = FILE + "".join(f"open 0 name=5 descriptor={d}\n" for d in range(1, 32))
 
 # The last record of each log, and what must be said of it.
@@ -52,11 +57,102 @@ SENTENCES = [
         ["writes to descriptor 1, device 1 (panel)", "1 (panel) gained"],
     ),
     (HELD + "truncate 0 descriptor=0", ["truncates", "- file 24 was emptied: item 1 gone"]),
-    (HELD + "map-read 0 descriptor=0", ["maps", "to read", "- link began: 24 -> process 0"]),
-    (FILE + "map-both 0 descriptor=0", ["both ways", "began: process 0 -> 24", "24 -> process 0"]),
     (
-        FILE + "map-both 0 descriptor=0\nunmap 0 container=24",
-        ["process 0 unmaps file 24", "link ended: process 0 -> 24", "link ended: 24 -> process 0"],
+        HELD + "map-read 0 descriptor=0",
+        [
+            "process 0 maps descriptor 0, file 24, for reading",
+            "- process 0 maps file 24 for reading once: this record",
+            "- link began: 24 -> process 0",
+        ],
+    ),
+    (
+        BOTH_MAPPED,
+        [
+            "process 0 maps descriptor 0, file 24, both ways",
+            "- process 0 maps file 24 both ways once: this record",
+            "- link began: process 0 -> 24",
+            "- link began: 24 -> process 0",
+        ],
+    ),
+    (
+        BOTH_MAPPED + "unmap 0 container=24 both",
+        [
+            "process 0 unmaps file 24, one mapping both ways",
+            "- a mapping both ways ended: that of record 3",
+            "- process 0 no longer maps file 24",
+            "- link ended: process 0 -> 24",
+            "- link ended: 24 -> process 0",
+        ],
+    ),
+    (NESTED, ["changed: process 0 maps file 24 for reading twice: record 3 and this record"]),
+    (
+        NESTED + "unmap 0 container=24 read",
+        [
+            "process 0 unmaps file 24, one mapping for reading",
+            "- a mapping for reading ended: that of record 4",
+            "- process 0 still maps file 24 for reading once: record 3",
+            "- link stays: 24 -> process 0, for a mapping is left",
+        ],
+    ),
+    (
+        NESTED + "map-read 0 descriptor=0\nmap-read 0 descriptor=0",
+        ["changed: process 0 maps file 24 for reading 4 times: records 3 to 5 and this record"],
+    ),
+    (
+        MIXED,
+        [
+            "- process 0 maps file 24 for reading once: record 3, and both ways once: this record",
+            "- link began: process 0 -> 24",
+        ],
+    ),
+    (
+        MIXED + "unmap 0 container=24 both",
+        [
+            "- a mapping both ways ended: that of record 4",
+            "- process 0 still maps file 24 for reading once: record 3",
+            "- link ended: process 0 -> 24",
+            "- link stays: 24 -> process 0, for a mapping is left",
+        ],
+    ),
+    (
+        MIXED + "map-both 0 descriptor=0\nunmap 0 container=24 read",
+        [
+            "- a mapping for reading ended: that of record 3",
+            "- process 0 still maps file 24 both ways twice: records 4, 5",
+            "- link stays: 24 -> process 0, for a mapping is left",
+            "- link stays: process 0 -> 24, for a mapping both ways is left",
+        ],
+    ),
+    # The latest mapping of a sort ends first, also after others of another sort.
+    (
+        NESTED + "map-both 0 descriptor=0\nunmap 0 container=24 read\nunmap 0 container=24 read",
+        [
+            "- a mapping for reading ended: that of record 3",
+            "- process 0 still maps file 24 both ways once: record 5",
+        ],
+    ),
+    (
+        FULL,
+        ["maps file 24 for reading 255 times: records 3 to 256 and this record"],
+    ),
+    (
+        NESTED + "fork 0 child=2",
+        ["- process 2 maps file 24 for reading twice: this record", "link began: 24 -> process 2"],
+    ),
+    (
+        NESTED + "fork 0 child=2\nmap-read 2 descriptor=0\nmap-read 2 descriptor=0",
+        ["for reading 4 times: record 5 (2 of them), record 6 and this record"],
+    ),
+    (
+        NESTED + "fork 0 child=2\nunmap 2 container=24 read",
+        [
+            "- a mapping for reading ended: that of record 5",
+            "- process 2 still maps file 24 for reading once: record 5",
+        ],
+    ),
+    (
+        MIXED + "exit 0",
+        ["- process 0 no longer maps file 24", "- link ended: 24 -> process 0", "0 is dead"],
     ),
     (FILE + "unlink 0 name=5", ["process 0 unlinks name 5", "name 5 is unbound; before: file 24"]),
     (
@@ -193,7 +289,7 @@ REFUSED = [
         ],
     ),
     (
-        FILE + "map-both 0 descriptor=0\npipe 0 descriptors=1,2 container=24",
+        BOTH_MAPPED + "pipe 0 descriptors=1,2 container=24",
         [
             "in use by name 5, descriptor 0 of process 0, link process 0 -> 24 and "
             "link 24 -> process 0"
@@ -278,20 +374,73 @@ REFUSED = [
         ["name 5 is unbound; the only bound one is 6", "record 3 unbound it"],
     ),
     (
-        LIVE + "unmap 0 container=24",
+        LIVE + "unmap 0 container=24 read",
         [
             "refused 16 (no link to unmap)",
-            "no link between process 0 and container 24; process 0 has no link at all",
+            "process 0 has no mapping of container 24 for reading; it maps nothing for reading: "
+            "map a descriptor first",
             "no earlier record made one",
         ],
     ),
     (
-        FILE + "map-read 0 descriptor=0\nunmap 0 container=25",
-        ["refused 16 (no link to unmap)", "the only container linked with it is 24"],
+        READ_MAPPED + "unmap 0 container=25 read",
+        [
+            "refused 16 (no link to unmap)",
+            "process 0 has no mapping of container 25 for reading; the only container that it "
+            "maps for reading is 24",
+            "no earlier record made one",
+        ],
     ),
     (
-        FILE + "map-read 0 descriptor=0\nunmap 0 container=24\nunmap 0 container=24",
-        ["no link between process 0 and file 24", "record 4 ended the link"],
+        READ_MAPPED + "unmap 0 container=24 read\nunmap 0 container=24 read",
+        ["process 0 has no mapping of file 24 for reading", "record 4 ended the last one"],
+    ),
+    (
+        READ_MAPPED + "unmap 0 container=24 both",
+        [
+            "refused 16 (no link to unmap)",
+            "process 0 has no mapping of file 24 both ways; it has some for reading, which is "
+            "sort 0 (read)",
+            "process 0 maps file 24 for reading once: record 3",
+            "no earlier record made one",
+        ],
+    ),
+    (
+        MIXED + "map-both 0 descriptor=0\nunmap 0 container=24 read\nunmap 0 container=24 read",
+        [
+            "it has some both ways, which is sort 1 (both)",
+            "process 0 maps file 24 both ways twice: records 4, 5",
+            "record 6 ended the last one",
+        ],
+    ),
+    (
+        BOTH_MAPPED + "exit 0\nstart 0\nunmap 0 container=24 both",
+        ["process 0 has no mapping of file 24 both ways", "record 4 ended the last one"],
+    ),
+    (
+        READ_MAPPED + "unmap 0 container=24 sort=7",
+        [
+            "process 0 would unmap file 24, one mapping of sort 7",
+            "refused 5 (out of range)",
+            "sort 7 is out of range; sorts are 0 (read) and 1 (both)",
+        ],
+    ),
+    (
+        FULL + "map-read 0 descriptor=0",
+        [
+            "refused 17 (count at 255)",
+            "process 0 maps file 24 for reading 255 times, the most there can be: unmap it once "
+            "first",
+            "process 0 maps file 24 for reading 255 times: records 3 to 257",
+        ],
+    ),
+    (
+        FULL + "create 0 name=6 descriptor=1 container=25\nmap-both 0 descriptor=0\n"
+        "map-read 0 descriptor=0",
+        [
+            "unmap it once first; the only descriptor with fewer mappings is 1",
+            "255 times: records 3 to 257, and both ways once: record 259",
+        ],
     ),
     (
         FILE + "open 0 name=6 descriptor=0",
@@ -396,7 +545,13 @@ OFFERS = [
     (FILE + "open 0 name=6 descriptor=0", []),
     (FILE + "unlink 0 name=6", []),
     (FILE + "rename 0 from=6 to=7", []),
-    (FILE + "map-read 0 descriptor=0\nunmap 0 container=25", []),
+    (READ_MAPPED + "unmap 0 container=25 read", []),
+    (READ_MAPPED + "unmap 0 container=24 both", []),
+    (READ_MAPPED + "unmap 0 container=24 sort=2", []),
+    (READ_MAPPED + "raw 10 0005 0d 00 18 00 01", ["allow: unmap 0 container=24 read"]),
+    (READ_MAPPED + "raw 10 0005 0d 00 18 01 01", []),
+    (FULL + "map-read 0 descriptor=0", []),
+    (FULL + "create 0 name=6 descriptor=1 container=25\nmap-read 0 descriptor=0", []),
     (LIVE + "fork 3 child=0", []),
     # Nor which kind, action, item or substitute.
     ("raw 10 0005 1400000000", []),
@@ -441,6 +596,9 @@ MOODS = [
     ),
     (HELD, "item 1 comes in from outside and is given to file 24"),
     (CONFINED + "fork 0 child=1", "process 0 would fork process 1"),
+    (NESTED + "unmap 0 container=24 read", "process 0 unmaps file 24, one mapping for reading"),
+    (FILE + "unmap 0 container=24 both", "process 0 would unmap file 24, one mapping both ways"),
+    (FILE + "unmap 0 container=24 sort=2", "process 0 would unmap file 24, one mapping of sort 2"),
     (CONFINED + "write 0 descriptor=1", "process 0 would write to descriptor 1, device 1 (panel)"),
     (CONFINED + "write 0 descriptor=0", "process 0 writes to descriptor 0, file 24"),
     (
@@ -596,6 +754,22 @@ def test_options(session: Session) -> None:
     session.checks.equal("--brief: lines", len(brief), 31)
     last = "30 records: 27 allow, 1 rule, 2 inhibit; the program was not run."
     session.checks.equal("--brief: the last line", brief[-1], last)
+
+
+def test_callbacks(session: Session) -> None:
+    """A write is stopped because of a link that an unmap left."""
+    said = modelled("--only", "9-11", name="callbacks").output
+    lines = [
+        "- a mapping for reading ended: that of record 8",
+        "- process 0 (radio program) still maps file 24 (beat buffer) for reading once: record 7",
+        "- link stays: 24 -> process 0, for a mapping is left",
+        "- process 0 (radio program) gained item 2 (second rower's intervals), over "
+        "24 -> process 0",
+        "inhibit 0: it would break rule 0, and nothing is done",
+        "to process 0 (radio program): 24 -> process 0 (record 7)",
+    ]
+    for line in lines:
+        session.checks.true(f"callbacks: says '{line}'", line in said, said)
 
 
 def test_way(session: Session) -> None:

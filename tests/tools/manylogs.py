@@ -13,6 +13,7 @@ from model.records import Call, Rule, encode, read_frame
 from model.tracker import State, Tracker, frame_refusals
 from tests.logtests.randomlogs import log_generator
 from tests.tools import drawing
+from tests.tools.mapped import Ledger, mapping_faults
 from tests.tools.session import Session, logtool
 from tools import page
 from tools.changes import Changes, changes_between
@@ -22,13 +23,15 @@ from tools.names import NO_OWN
 from tools.provenance import DONE, Origin, Step, chain, record_of, steps_of
 from tools.reasons import Case, Reason, reason_of, replaced
 from tools.report import full_lines
-from tools.scene import Painter, all_contents, make_plan, needed, pair_of
-from tools.views import view_at, views_of
+from tools.scene import Painter, all_contents, pair_of, plan_of
+from tools.views import View, view_at, views_of
 from tools.words import Words
 
 RECORDS = range(20, 51)  # of a log
 LONG = 300  # of a few logs
 LONG_EVERY = 100  # logs, one of which is long
+CLIMBING = 420  # of a few others, in which a count of mappings climbs to its limit
+CLIMBING_EVERY = 60  # logs, one of which is such
 RULES_FIRST = 4  # rules at the front of a log, at most
 PAGE_EVERY = 20  # logs, one of which becomes a page
 PROGRAM_LOGS = 12
@@ -39,9 +42,10 @@ WORDS = ("allow", "inhibit", "modify", "rule", "refused")
 
 def make_log(seed: int) -> bytes:
     """The log of a seed: of a modest length, with a few rules at its front."""
-    generator = log_generator(seed)
-    generator.first = min(generator.first, RULES_FIRST)
     count = LONG if seed % LONG_EVERY == 0 else RECORDS[seed % len(RECORDS)]
+    count = CLIMBING if seed % CLIMBING_EVERY == 30 else count
+    generator = log_generator(seed, count)
+    generator.first = min(generator.first, RULES_FIRST)
     records = [generator.record() for _ in range(count)]
     if generator.choices.chance(generator.mix.cut):
         records.append(generator.cut_record())
@@ -134,10 +138,11 @@ def applied(state: State, changes: Changes) -> State:
         c: (state.items[c] - changes.lost.get(c, frozenset())) | changes.gained.get(c, frozenset())
         for c in CONTAINERS
     }
+    mappings = {**state.mappings, **{key: after for key, (_, after) in changes.mapped.items()}}
     return State(
         (state.live | {*changes.started}) - {*changes.ended},
         items,
-        (state.links | {*changes.linked}) - {*changes.unlinked},
+        {key: count for key, count in mappings.items() if count},
         moved(state.names, changes.names),
         moved(state.descriptors, changes.descriptors),
         [*state.rules, *changes.rules],
@@ -150,6 +155,8 @@ def change_faults(step: Step, said: Explanation) -> Iterator[str]:
     changes = changes_between(before, after)
     if applied(before, changes) != after:
         yield f"record {step.number}: the changes do not lead to the state after it"
+    if (before.links | {*changes.linked}) - {*changes.unlinked} != after.links:
+        yield f"record {step.number}: the changes do not lead to the links after it"
     if {*changes.used} != (after.used() - before.used()) & {*FILES}:
         yield f"record {step.number}: containers in use"
     if said.changes[0].startswith("nothing") != (before == after):
@@ -224,7 +231,7 @@ THERE: Dict[int, Callable[[State, Call], bool]] = {
     8: lambda state, call: call.a in state.used(),
     14: lambda state, call: (call.process, call.a) in state.descriptors,
     15: lambda state, call: call.a in state.names,
-    16: lambda state, call: bool({(call.a, call.caller), (call.caller, call.a)} & state.links),
+    16: lambda state, call: (call.process, call.a, call.b) in state.mappings,
 }
 
 
@@ -237,7 +244,7 @@ def past_faults(steps: List[Step], step: Step, said: Explanation) -> Iterator[st
     ended = next((s.number for s in earlier if THERE[number](s.before.state, step.record)), None)
     front = "no earlier record " if ended is None else f"record {ended} "
     found = [text for _, text in said.why if text.startswith(front)]
-    others = [text for _, text in said.why if "record" in text]
+    others = [text for _, text in said.why if text.startswith(("no earlier record ", "record "))]
     if len(found) != 1 or found != others:
         yield f"record {step.number}: {others} for '{front}'"
 
@@ -263,6 +270,7 @@ UNUSED = {
     Kind.DEVICE: "c",
     Kind.DUP: "c",
     **dict.fromkeys(range(Kind.CLOSE, Kind.UNLINK + 1), "bc"),
+    Kind.UNMAP: "c",
     Kind.RENAME: "c",
     Kind.LINK: "c",
     Kind.FORK: "bc",
@@ -341,10 +349,11 @@ def stopped_faults(step: Step, said: Explanation) -> Iterator[str]:
 # All of a log.
 
 
-def step_faults(steps: List[Step], step: Step, choices: Choices) -> Iterator[str]:
+def step_faults(steps: List[Step], step: Step, choices: Choices, ledger: Ledger) -> Iterator[str]:
     """What is wrong with what is said of a record."""
     said = explain(step)
     yield from change_faults(step, said)
+    yield from mapping_faults(step, said, ledger)
     if step.answer.word == "refused":
         yield from refusal_faults(step, said, choices)
         yield from past_faults(steps, step, said)
@@ -352,6 +361,22 @@ def step_faults(steps: List[Step], step: Step, choices: Choices) -> Iterator[str
         yield from stopped_faults(step, said)
     if not full_lines(said, 100, None) or not said.sentence:
         yield f"record {step.number}: nothing is said"
+
+
+def label_faults(drawn: Dict[Tuple[int, int], Any], view: View) -> Iterator[str]:
+    """Whether each link says how often it is mapped, where that is more than once."""
+    state = view.moment.state
+    for process, container in {key[:2] for key in state.mappings}:
+        pair = (process_container(process), container)
+        read, both = state.count(process, container, 0), state.count(process, container, 1)
+        wanted = f"read {read}, both {both}" if read and both else f"{read + both}\u00d7"
+        text, marks = drawn.get(pair, ("", set()))
+        if text != wanted and (text or read + both > 1):
+            yield f"the label of {pair}: '{text}' for '{wanted}'"
+        if text == "1\u00d7" and marks != {"less"}:
+            yield f"the label of {pair}: '{text}' with marks {marks}"
+    if len(drawn) > len({key[:2] for key in state.mappings}):
+        yield f"labels on links that are not there: {drawn}"
 
 
 def picture_faults(steps: List[Step], at: int) -> Iterator[str]:
@@ -365,6 +390,7 @@ def picture_faults(steps: List[Step], at: int) -> Iterator[str]:
         yield f"at {at}: containers {sorted(wanted ^ drawn)}"
     if drawing.drawn_links(svg) != {pair_of(link) for link in view.links()}:
         yield f"at {at}: links"
+    yield from label_faults(drawing.drawn_labels(svg), view)
     step = view.step
     given = (
         {} if step is None or step.answer.word != "allow" else gives(step.record, step.before.state)
@@ -385,8 +411,7 @@ def page_faults(steps: List[Step]) -> Iterator[str]:
     views = views_of(steps)
     data = page.page_data(steps, 0, "a log", NO_OWN)
     contents = all_contents(views, NO_OWN)
-    plan = make_plan(needed(contents), {pair_of(link) for view in views for link in view.links()})
-    painter = Painter(plan)
+    painter = Painter(plan_of(views, contents))
     scene: Dict[str, Any] = {}
     for number, (view, boxes) in enumerate(zip(views, contents)):
         scene.update(data["differences"][number])
@@ -402,12 +427,12 @@ def page_faults(steps: List[Step]) -> Iterator[str]:
 def log_faults(seed: int) -> Tuple[List[str], List[Step]]:
     """What is wrong with the explanations and pictures of a log."""
     log = make_log(seed)
-    choices = Choices(seed)
+    choices, ledger = Choices(seed), Ledger()
     steps = list(steps_of(log))
     faults = [] if [s.answer for s in steps] == Tracker().run_log(log) else ["answers"]
     faults += provenance_faults(steps)
     for step in steps:
-        faults += step_faults(steps, step, choices)
+        faults += step_faults(steps, step, choices, ledger)
     for at in {len(steps), choices.below(len(steps) + 1)}:
         faults += picture_faults(steps, at)
     if seed % PAGE_EVERY == 0:
@@ -432,6 +457,12 @@ def test_properties(session: Session) -> None:
             if s.answer.word == "refused"
             for _, text in explain(s).why
         )
+        counts["links that stay"] += sum(
+            line.startswith("link stays: ")
+            for s in steps
+            if s.answer.word == "allow" and s.record.kind == Kind.UNMAP
+            for line in explain(s).changes
+        )
         counts["hops"] += sum(
             len(chain(way)) for s in steps[-1:] for way in s.after.origins.values()
         )
@@ -442,12 +473,13 @@ def test_properties(session: Session) -> None:
 
 def check_counts(session: Session, counts: Counter) -> None:
     """The logs must contain what the properties speak of."""
-    session.say(", ".join(f"{word} {counts[word]}" for word in (*WORDS, "hops", "offers")))
+    said = (*WORDS, "hops", "offers", "links that stay")
+    session.say(", ".join(f"{word} {counts[word]}" for word in said))
     if session.logs < 500:
         session.say("fewer than 500 logs: how often each answer occurs is not checked")
         return
     names = [*WORDS, *(f"kind {kind}" for kind in KINDS)]
-    names += [f"refused {number}" for number in RECORD_REFUSALS]
+    names += [*(f"refused {number}" for number in RECORD_REFUSALS), "links that stay"]
     for name in names:
         session.checks.true(f"random logs: {name}", counts[name] >= 20, f"{counts[name]} times")
     session.checks.true("random logs: hops", counts["hops"] > 2000, str(counts["hops"]))

@@ -17,7 +17,7 @@ from tools.names import Own, read_names
 from tools.provenance import Step, steps_of
 
 LOGS = ROOT / "logs"
-STORIES = ("rowers", "evaluation", "run-b")
+STORIES = ("rowers", "evaluation", "callbacks", "run-b")
 
 
 class Session(NamedTuple):

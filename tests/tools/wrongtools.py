@@ -7,7 +7,7 @@ from unittest import mock
 from model.limits import DESCRIPTORS, Refusal
 from tests.tools import manylogs
 from tests.tools.session import Session
-from tools import boxes, changes, draw, explain, page, provenance, reasons, views
+from tools import boxes, changes, explain, mappings, page, provenance, reasons, scene, views
 from tools.reasons import WORDINGS
 
 LOGS = 60  # within which each must be found
@@ -40,6 +40,36 @@ def renews_links(right: Callable) -> Callable:
         return made._replace(began=dict.fromkeys(made.began, number))
 
     return moved_on
+
+
+def first_ends_first(right: Callable) -> Callable:
+    """Of several mappings of a sort the first is said to end, and the latest to be left."""
+
+    def made_after(made: Any, after: Any, number: int) -> Any:
+        turned = {key: made[key][-after.mappings.get(key, 0) :] for key in made}
+        return right(turned, after, number)
+
+    return made_after
+
+
+def counts_sorts_together(right: Callable) -> Callable:
+    """Mappings of both sorts are said to be for reading."""
+
+    def mapped_text(words: Any, made: Any, pair: Any, *rest: Any, **more: Any) -> str:
+        both = made.get((*pair, 0), ()) + made.get((*pair, 1), ())
+        return right(words, {(*pair, 0): both}, pair, *rest, **more)
+
+    return mapped_text
+
+
+def says_nothing(right: Callable) -> Callable:
+    """No line is said."""
+    return lambda *given: []
+
+
+def draws_no_counts(right: Callable) -> Callable:
+    """No link says how often it is mapped."""
+    return lambda view: {}
 
 
 def forgets_closed(right: Callable) -> Callable:
@@ -114,6 +144,10 @@ WRONG: Dict[str, Tuple[Any, str, Maker]] = {
     "forgets givers": (provenance, "grown", forgets_givers),
     "skips links": (provenance, "routes", skips_links),
     "renews links": (provenance, "moved_on", renews_links),
+    "takes the first mapping to end": (provenance, "made_after", first_ends_first),
+    "counts both sorts as one": (mappings, "mapped_text", counts_sorts_together),
+    "does not say which links stay": (explain, "lasting_links", says_nothing),
+    "draws no counts": (views.View, "labels", draws_no_counts),
     "forgets what ended": (provenance, "gone", forgets_ends),
     "forgets closed entries": (changes, "moves", forgets_closed),
     "does not say the last change": (explain, "change_lines", leaves_out_last),
@@ -124,7 +158,7 @@ WRONG: Dict[str, Tuple[Any, str, Maker]] = {
     "hides an item": (boxes, "item_section", leaves_out_last),
     "hides a box": (views.View, "shown", leaves_out_last),
     "keeps groups of a page": (page, "difference", misses_groups),
-    "draws boxes over each other": (draw, "make_plan", crowds),
+    "draws boxes over each other": (scene, "make_plan", crowds),
 }
 WRONG_WORDINGS: Dict[str, Tuple[Refusal, Maker]] = {
     "leaves out what would pass": (Refusal.TAKEN, fewer_values),

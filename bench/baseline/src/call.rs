@@ -1,6 +1,6 @@
 //! A call read from its five bytes: refusals 4 and 5.
 
-use crate::numbers::{Container, Descriptor, Item, Name, Process, Refusal};
+use crate::numbers::{Container, Descriptor, Item, Name, Process, Refusal, Sort};
 
 #[derive(Clone, Copy, Debug)]
 pub enum Call {
@@ -23,7 +23,7 @@ pub enum Act {
     Truncate(Descriptor),
     MapRead(Descriptor),
     MapBoth(Descriptor),
-    Unmap(Container),
+    Unmap(Container, Sort),
     Unlink(Name),
     Rename(Name, Name),
     Link(Name, Name),
@@ -98,11 +98,11 @@ impl Act {
     /// The kinds 13 to 18: unmap, names and processes.
     fn read_other(kind: u8, a: u8, b: u8, c: u8) -> Result<Act, Refusal> {
         match kind {
-            15 | 16 => unused(c)?,
+            13 | 15 | 16 => unused(c)?,
             _ => unused(b | c)?,
         }
         match kind {
-            13 => Ok(Act::Unmap(Container::new(a)?)),
+            13 => Ok(Act::Unmap(Container::new(a)?, Sort::new(b)?)),
             14 => Ok(Act::Unlink(Name::new(a)?)),
             15 => Ok(Act::Rename(Name::new(a)?, Name::new(b)?)),
             16 => Ok(Act::Link(Name::new(a)?, Name::new(b)?)),

@@ -1,7 +1,7 @@
 //! The log program without proofs: a log on standard input, a line for each record on standard output.
 //!
 //! It is what docs/BENCH.md measures the proved program beside. The rules it follows are those of document 01, with
-//! Papers 2 and 3 of document 02.
+//! Papers 2 to 4 of document 02.
 
 #![forbid(unsafe_code)]
 

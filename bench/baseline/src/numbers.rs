@@ -1,7 +1,7 @@
 //! Numbers of the box (document 01, The box) as types of their own, and the refusals.
 
-/// Why a record is refused: document 01, What a record gets, and document 02, Paper 2. In the order of the tests: the
-/// first that applies is given.
+/// Why a record is refused: document 01, What a record gets, and document 02, Papers 2 and 4. In the order of the tests:
+/// the first that applies is given.
 #[derive(Clone, Copy, PartialEq, Eq, Debug)]
 pub enum Refusal {
     CutShort = 1,
@@ -17,6 +17,7 @@ pub enum Refusal {
     NoLink = 16,
     SameTwice = 9,
     NoFile = 10,
+    CountFull = 17,
     RulesFull = 11,
     BrokenAlready = 12,
 }
@@ -55,6 +56,23 @@ number!(Process, 16);
 number!(Descriptor, 32);
 number!(Name, 128);
 number!(Item, 64);
+
+/// The two sorts of mapping (document 02, Paper 4), by the number that unmap names them with.
+#[derive(Clone, Copy, PartialEq, Eq, Debug)]
+pub enum Sort {
+    ToRead = 0,
+    BothWays = 1,
+}
+
+impl Sort {
+    pub fn new(n: u8) -> Result<Self, Refusal> {
+        match n {
+            0 => Ok(Sort::ToRead),
+            1 => Ok(Sort::BothWays),
+            _ => Err(Refusal::OutOfRange),
+        }
+    }
+}
 
 const FIRST_PROCESS: u8 = 8;
 const FIRST_FILE: u8 = 24;

@@ -1,4 +1,4 @@
-//! What the tracker keeps: items, links, names, descriptors, and how often each container is used.
+//! What the tracker keeps: items, links, counts of mappings, names, descriptors, and how often each container is used.
 //!
 //! An accepted call is an `Effect`: a flow of items and a change of the tables. It is worked out without touching the
 //! state (`admit`), so that rules can be judged before it is made (`change`) and nothing has to be undone.
@@ -6,7 +6,7 @@
 mod admit;
 mod change;
 
-use crate::numbers::{Container, Descriptor, Name, Process, Refusal};
+use crate::numbers::{Container, Descriptor, Name, Process, Refusal, Sort};
 use crate::sets::Set;
 
 /// Items, and the containers in the reach given to that lack some of them.
@@ -61,7 +61,7 @@ enum Change {
     Truncate(Container),
     MapRead(Process, Container),
     MapBoth(Process, Container),
-    Unmap(Process, Container),
+    Unmap(Process, Container, Sort),
     Unlink(Name),
     Rename(Name, Name),
     Bind(Name, Container),
@@ -86,10 +86,16 @@ fn refuse_if(condition: bool, refusal: Refusal) -> Result<(), Refusal> {
 /// The mark of an unbound name.
 const UNBOUND: u8 = 0xFF;
 
+/// How often a process maps a container: to read, and both ways. Indexed by sort.
+type Counts = [u8; 2];
+const UNMAPPED: Counts = [0; 2];
+
 pub struct State {
     items: [Set; Container::LIMIT],
     feeds: [Set; Container::LIMIT],
     fed_by: [Set; Container::LIMIT],
+    /// Of each process with each container; the links follow from them.
+    counts: [[Counts; Container::LIMIT]; Process::LIMIT],
     /// Names, open descriptors and ends of links; one more for a device, and for a live process.
     uses: [u16; Container::LIMIT],
     names: [u8; Name::LIMIT],
@@ -106,6 +112,7 @@ impl State {
             items: [Set::EMPTY; Container::LIMIT],
             feeds: [Set::EMPTY; Container::LIMIT],
             fed_by: [Set::EMPTY; Container::LIMIT],
+            counts: [[UNMAPPED; Container::LIMIT]; Process::LIMIT],
             uses,
             names: [UNBOUND; Name::LIMIT],
             descriptors: [[0; Descriptor::LIMIT]; Process::LIMIT],
@@ -142,6 +149,11 @@ impl State {
         let entry = self.names[name.index()];
         refuse_if(entry == UNBOUND, Refusal::NameUnbound)?;
         Ok(Container::member(entry))
+    }
+
+    /// How many mappings of a sort a process has of a container.
+    fn count(&self, process: Process, container: Container, sort: Sort) -> u8 {
+        self.counts[process.index()][container.index()][sort as usize]
     }
 
     fn refuse_open(&self, process: Process, descriptor: Descriptor) -> Result<(), Refusal> {

@@ -1,9 +1,9 @@
 //! Pomtvia for Rust: a data flow tracker for the system calls of a small box.
 //!
 //! A [`Monitor`] is a tracker with its rules. [`Monitor::new`] makes it and its methods alone change it, so no loaded rule is ever broken in
-//! it; for every such monitor and all bytes the functions behind the methods are proved to answer as document 01 says. Every method is safe
-//! to call with any value: what the functions ask of memory (pointers that hold as much as is said, nothing shared while it is written)
-//! follows from the types here. Nothing is allocated.
+//! it; for every such monitor and all bytes the functions behind the methods are proved to answer as document 01 says, with Papers 1 to 4 of
+//! document 02. Every method is safe to call with any value: what the functions ask of memory (pointers that hold as much as is said, nothing
+//! shared while it is written) follows from the types here. Nothing is allocated.
 #![no_std]
 
 mod archive;
@@ -16,7 +16,7 @@ pub const fn records_in(bytes: usize) -> usize {
 }
 
 /// The number of a refusal (document 01, What a record gets). The constants stand in the order in which the tests are tried, and the first
-/// that applies is the answer: the earliest place decides, not the lowest number (document 02, Paper 2).
+/// that applies is the answer: the earliest place decides, not the lowest number (document 02, Papers 2 and 4).
 #[derive(Clone, Copy, Debug, PartialEq, Eq)]
 pub struct Refusal(pub u8);
 
@@ -41,12 +41,14 @@ impl Refusal {
     pub const DESCRIPTOR_CLOSED: Refusal = Refusal(14);
     /// The name is unbound (kinds 2, 14, 15 and 16).
     pub const NAME_UNBOUND: Refusal = Refusal(15);
-    /// There is no link to unmap.
+    /// The process has no mapping of the container to unmap, of the sort that field b names.
     pub const NO_LINK: Refusal = Refusal(16);
     /// A pipe's two descriptors, or a rule's two items, are equal.
     pub const SAME_TWICE: Refusal = Refusal(9);
     /// A truncate of a device.
     pub const NO_FILE: Refusal = Refusal(10);
+    /// The count that a map read or map both would raise is at 255.
+    pub const COUNT_FULL: Refusal = Refusal(17);
     /// 32 rules are held.
     pub const RULES_FULL: Refusal = Refusal(11);
     /// The present state breaks the rule.
@@ -91,6 +93,14 @@ impl Answer {
     }
 }
 
+/// Field b of an unmap (kind 13) that ends a mapping for reading (document 02, Paper 4). A process has two counts of mappings with each
+/// container, each at most 255: map read (kind 11) raises the first, map both (kind 12) the second alone. What comes to the container comes to
+/// the process while either count is above 0, and what comes to the process comes to the container while the second is.
+pub const MAPPED_READ: u8 = 0;
+
+/// Field b of an unmap that ends a mapping both ways.
+pub const MAPPED_BOTH: u8 = 1;
+
 /// A call: its kind, the calling process, and three fields.
 #[derive(Clone, Copy, Debug, PartialEq, Eq)]
 pub struct Call {
@@ -105,7 +115,7 @@ pub struct Call {
 #[repr(C)]
 #[derive(Clone, PartialEq, Eq)]
 pub struct Monitor {
-    words: [u64; 97],
+    words: [u64; 353],
     descriptors: [u8; 512],
     names: [u8; 128],
     sets: [u64; 32],
@@ -151,7 +161,7 @@ impl Monitor {
     /// A fresh tracker: nothing live, nothing held, nothing open, no rules.
     pub fn new() -> Monitor {
         let mut m = Monitor {
-            words: [0; 97],
+            words: [0; 353],
             descriptors: [0; 512],
             names: [0; 128],
             sets: [0; 32],

@@ -1,6 +1,6 @@
 //! Runs logs through the library, in three ways, and compares with what the program runlog writes. The folder POMTVIA_LOGS holds, for each
 //! log NAME.log, NAME.expected with the program's lines, NAME.items with a line for each container and NAME.holders with one for each item.
-use pomtvia::{answers, next, records_in, Answer, Call, Monitor, Refusal};
+use pomtvia::{answers, next, records_in, Answer, Call, Monitor, Refusal, MAPPED_BOTH, MAPPED_READ};
 use std::{fs, path::PathBuf};
 
 fn cases() -> Vec<PathBuf> {
@@ -142,7 +142,9 @@ fn the_number_tells_what_was_missing() {
     let closed = (6..=12).map(|kind| (call(kind, 3, if kind == 6 { 4 } else { 0 }, 0), Refusal::DESCRIPTOR_CLOSED));
     let unbound = [2, 14, 15, 16].map(|kind| (call(kind, 6, if kind == 14 { 0 } else { 7 }, 0), Refusal::NAME_UNBOUND));
     let others = [
-        (call(13, 24, 0, 0), Refusal::NO_LINK),
+        (call(13, 24, MAPPED_READ, 0), Refusal::NO_LINK),
+        (call(13, 24, MAPPED_BOTH, 0), Refusal::NO_LINK),
+        (call(13, 24, 2, 0), Refusal::OUT_OF_RANGE),
         (call(19, 25, 0, 0), Refusal::MISSING),
         // The earliest place decides.
         (call(6, 3, 0, 0), Refusal::TAKEN),
@@ -158,6 +160,80 @@ fn the_number_tells_what_was_missing() {
         assert_eq!(m.on_call(q), Answer::Refused(refusal), "{q:?} by the hook");
     }
     assert!(m == before, "nothing changed");
+}
+
+/// A call of process 0.
+fn call(kind: u8, a: u8, b: u8) -> Call {
+    Call { kind, process: 0, a, b, c: 0 }
+}
+
+/// Process 0 with the file 24 as descriptor 0.
+fn with_a_file() -> Monitor {
+    let mut m = Monitor::new();
+    assert_eq!(m.call(call(1, 0, 0)), Answer::Allow);
+    assert_eq!(m.call(Call { c: 24, ..call(3, 5, 0) }), Answer::Allow);
+    m
+}
+
+/// Whether an item that comes to one container comes to another too.
+fn arrives(m: &mut Monitor, item: u8, from: u8, to: u8) -> bool {
+    assert_eq!(m.call(call(19, from, item)), Answer::Allow, "a label");
+    m.items(to).expect("a container") >> item & 1 == 1
+}
+
+#[test]
+fn mapped_twice_and_unmapped_once() {
+    let refused = Answer::Refused(Refusal::NO_LINK);
+    let mut m = with_a_file();
+    for kind in [11, 11, 12, 12] {
+        assert_eq!(m.call(call(kind, 0, 0)), Answer::Allow, "a mapping");
+    }
+    // After each unmap: whether items still come from the file to the process, and from the process to the file.
+    let unmaps = [
+        (MAPPED_BOTH, true, true),
+        (MAPPED_BOTH, true, false),
+        (MAPPED_READ, true, false),
+        (MAPPED_READ, false, false),
+    ];
+    for (item, (sort, to_process, to_file)) in (1..).zip(unmaps) {
+        assert_eq!(m.call(call(13, 24, sort)), Answer::Allow, "unmap {item}");
+        assert_eq!(arrives(&mut m, item, 24, 8), to_process, "unmap {item}: to the process");
+        assert_eq!(arrives(&mut m, 10 + item, 8, 24), to_file, "unmap {item}: to the file");
+    }
+    assert_eq!(m.call(call(13, 24, MAPPED_READ)), refused);
+    assert_eq!(m.call(call(13, 24, MAPPED_BOTH)), refused);
+    // A mapping both ways is none for reading.
+    assert_eq!(m.call(call(12, 0, 0)), Answer::Allow);
+    assert_eq!(m.call(call(13, 24, MAPPED_READ)), refused);
+    assert!(arrives(&mut m, 21, 24, 8) && arrives(&mut m, 22, 8, 24), "a refused unmap ends nothing");
+}
+
+#[test]
+fn counts_end_at_255() {
+    for (kind, sort, other) in [(11, MAPPED_READ, MAPPED_BOTH), (12, MAPPED_BOTH, MAPPED_READ)] {
+        let mut m = with_a_file();
+        let filled = |m: &mut Monitor, process, more| {
+            let q = Call { process, ..call(kind, 0, 0) };
+            assert!((0..more).all(|_| m.call(q) == Answer::Allow), "{more} mappings of kind {kind}");
+            let before = m.clone();
+            assert_eq!(m.call(q), Answer::Refused(Refusal::COUNT_FULL));
+            assert_eq!(m.on_call(q), Answer::Refused(Refusal::COUNT_FULL));
+            assert!(*m == before, "nothing changed");
+        };
+        filled(&mut m, 0, 255);
+        assert_eq!(m.call(call(17, 1, 0)), Answer::Allow, "a fork");
+        filled(&mut m, 1, 0);
+        assert_eq!(m.call(call(13, 24, other)), Answer::Refused(Refusal::NO_LINK));
+        assert_eq!(m.call(call(13, 24, sort)), Answer::Allow);
+        filled(&mut m, 0, 1);
+        assert!((0..255).all(|_| m.call(call(13, 24, sort)) == Answer::Allow), "255 unmaps");
+        assert_eq!(m.call(call(13, 24, sort)), Answer::Refused(Refusal::NO_LINK));
+        filled(&mut m, 1, 0);
+        let child = Call { process: 1, ..call(18, 0, 0) };
+        assert_eq!(m.call(child), Answer::Allow, "the child's exit");
+        assert_eq!(m.call(call(17, 1, 0)), Answer::Allow, "a fork after it");
+        filled(&mut m, 1, 255);
+    }
 }
 
 #[test]

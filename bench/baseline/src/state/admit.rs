@@ -1,9 +1,9 @@
-//! Refusals 6 to 10, and 14 to 16 in 8's place (document 01, What a record gets; document 02, Paper 2), and what an
-//! accepted call does.
+//! Refusals 6 to 10, 14 to 16 in 8's place, and 17 (document 01, What a record gets; document 02, Papers 2 and 4), and
+//! what an accepted call does.
 
 use super::{refuse_if, Change, Effect, Flow, Gift, State};
 use crate::call::{Act, Call};
-use crate::numbers::{Container, Descriptor, Name, Process, Refusal};
+use crate::numbers::{Container, Descriptor, Name, Process, Refusal, Sort};
 use crate::sets::Set;
 
 type Admitted = Result<Effect, Refusal>;
@@ -47,7 +47,7 @@ impl State {
             Act::Truncate(descriptor) => self.admit_truncate(process, descriptor),
             Act::MapRead(descriptor) => self.admit_map_read(process, descriptor),
             Act::MapBoth(descriptor) => self.admit_map_both(process, descriptor),
-            Act::Unmap(container) => self.admit_unmap(process, container),
+            Act::Unmap(container, sort) => self.admit_unmap(process, container, sort),
             Act::Unlink(name) => self.bound(name).and_then(|_| changing(Change::Unlink(name))),
             Act::Rename(from, to) => self.bound(from).and_then(|_| changing(Change::Rename(from, to))),
             Act::Link(from, to) => self.admit_link(from, to),
@@ -107,6 +107,7 @@ impl State {
 
     fn admit_map_read(&self, process: Process, descriptor: Descriptor) -> Admitted {
         let container = self.opened(process, descriptor)?;
+        refuse_if(self.count(process, container, Sort::ToRead) == u8::MAX, Refusal::CountFull)?;
         let flow = self.reading(process, container).into();
         Ok(Effect { flow, change: Change::MapRead(process, container) })
     }
@@ -114,17 +115,16 @@ impl State {
     /// The read, then the write of what the process then holds (document 02, Paper 3).
     fn admit_map_both(&self, process: Process, descriptor: Descriptor) -> Admitted {
         let container = self.opened(process, descriptor)?;
+        refuse_if(self.count(process, container, Sort::BothWays) == u8::MAX, Refusal::CountFull)?;
         let reading = self.reading(process, container);
         let writing = self.gift(self.items(process.container()) | reading.items, container);
         let flow = Flow([reading, writing]);
         Ok(Effect { flow, change: Change::MapBoth(process, container) })
     }
 
-    fn admit_unmap(&self, process: Process, container: Container) -> Admitted {
-        let own = process.container().index();
-        let mapped = self.feeds[own] | self.fed_by[own];
-        refuse_if(!mapped.has(container.index()), Refusal::NoLink)?;
-        changing(Change::Unmap(process, container))
+    fn admit_unmap(&self, process: Process, container: Container, sort: Sort) -> Admitted {
+        refuse_if(self.count(process, container, sort) == 0, Refusal::NoLink)?;
+        changing(Change::Unmap(process, container, sort))
     }
 
     fn admit_link(&self, from: Name, to: Name) -> Admitted {

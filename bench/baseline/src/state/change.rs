@@ -1,7 +1,7 @@
-//! Effects made on the state: document 01, the table of calls.
+//! Effects made on the state: document 01, the table of calls; mappings counted by document 02, Paper 4.
 
-use super::{Change, Effect, Flow, State, UNBOUND};
-use crate::numbers::{Container, Descriptor, Name, Process};
+use super::{Change, Effect, Flow, State, UNBOUND, UNMAPPED};
+use crate::numbers::{Container, Descriptor, Name, Process, Sort};
 use crate::sets::Set;
 
 impl State {
@@ -33,15 +33,16 @@ impl State {
             }
             Change::Close(process, descriptor) => self.close(process, descriptor),
             Change::Truncate(container) => self.truncate(container),
-            Change::MapRead(process, container) => self.link(container, process.container()),
+            Change::MapRead(process, container) => {
+                self.raise(process, container, Sort::ToRead);
+                self.link(container, process.container());
+            }
             Change::MapBoth(process, container) => {
+                self.raise(process, container, Sort::BothWays);
                 self.link(container, process.container());
                 self.link(process.container(), container);
             }
-            Change::Unmap(process, container) => {
-                self.end_link(container, process.container());
-                self.end_link(process.container(), container);
-            }
+            Change::Unmap(process, container, sort) => self.unmap(process, container, sort),
             Change::Unlink(name) => self.unbind(name),
             Change::Rename(from, to) => self.rename(from, to),
             Change::Bind(name, container) => self.bind(name, container),
@@ -101,6 +102,24 @@ impl State {
         }
     }
 
+    /// One mapping more.
+    fn raise(&mut self, process: Process, container: Container, sort: Sort) {
+        self.counts[process.index()][container.index()][sort as usize] += 1;
+    }
+
+    /// One mapping less: the link to the process lasts while either count is above 0, the other while the two-way one is.
+    fn unmap(&mut self, process: Process, container: Container, sort: Sort) {
+        let counts = &mut self.counts[process.index()][container.index()];
+        counts[sort as usize] -= 1;
+        let [to_read, both_ways] = *counts;
+        if both_ways == 0 {
+            self.end_link(process.container(), container);
+            if to_read == 0 {
+                self.end_link(container, process.container());
+            }
+        }
+    }
+
     fn link(&mut self, from: Container, to: Container) {
         if self.feeds[from.index()].has(to.index()) {
             return;
@@ -135,6 +154,7 @@ impl State {
         for n in self.open_set(process).members() {
             self.use_once(Container::member(entries[usize::from(n) % Descriptor::LIMIT]));
         }
+        self.counts[child.index()] = self.counts[process.index()];
         for n in self.fed_by[own.index()].members() {
             self.link(Container::member(n), new);
         }
@@ -151,6 +171,7 @@ impl State {
         for n in open.members() {
             self.release(Container::member(entries[usize::from(n) % Descriptor::LIMIT]));
         }
+        self.counts[process.index()] = [UNMAPPED; Container::LIMIT];
         for n in self.fed_by[own.index()].members() {
             self.end_link(Container::member(n), own);
         }
