@@ -72,7 +72,7 @@ module _ (s : Tables) (k : Linking s) (p a b c : ℕ) where
   pub process-lt : (kind : Kind) → inRange (ranges kind .process) p ≡ ltb p 16 → Accepted s (call kind) → p < 16
   process-lt kind e h = ltb-true p 16 (sym e ∙ fits-process (ranges kind) (call kind) (h .fits))
 
-  opened : (kind : Kind) → needOf kind ≡ openDescriptor → Accepted s (call kind) → isTarget to ≡ true
+  pub opened : (kind : Kind) → needOf kind ≡ openDescriptor → Accepted s (call kind) → isTarget to ≡ true
   unfolding missing isOpen
   opened kind e h = not-false (isTarget to) (untrue _ 14 (ap (missing s p a b) (sym e) ∙ h .there))
 

@@ -21,8 +21,10 @@ pub mod Outcomes
 pub mod Keeping
 pub mod TwoRuns
 pub mod Exact
+pub mod Filling
 pub mod Runs
 pub mod AtOnce
 pub mod Consequences
+pub mod CountsAfter
 pub mod Holders
 pub mod Fork

@@ -1,18 +1,18 @@
 -- Short consequences of the definitions. They hold for every state and every byte string, but for the last two, which speak of the states
 -- that steps make.
-use Prim.Native.Nat.{ℕ, suc, _≤_, _<_}
+use Prim.Native.Nat.{ℕ, suc, _-_, _≤_, _<_}
 use mathlib.Core.Path.{_≡_}
 use mathlib.Core.Logic.{_↔_}
-use mathlib.Core.Bool.{true, false, _&&_, _||_}
+use mathlib.Core.Bool.{Bool, true, false, _&&_, _||_}
 use mathlib.Core.List.{List, [], _∷_, _++_, map}
 use mathlib.Core.Option.{none, some}
-use lib.Dec.{ltb}
+use lib.Dec.{ltb, eqb}
 use lib.ListN.{getD, length, take, drop}
 use Rattle.sets.specs.Sets.{has}
-use Rattle.flow.specs.Lists.{isIn, Test}
-use Rattle.flow.specs.Box.{containerCount, itemCount, processCount, descriptorCount, containerOf, Rule, Tables, State, itemsOf, toRead, bothWays, mappings, feedersOf, feeds, holds, descriptor, isOpen, isBound}
+use Rattle.flow.specs.Lists.{isIn, Test, firstThat}
+use Rattle.flow.specs.Box.{containerCount, itemCount, processCount, descriptorCount, containerOf, Rule, Tables, State, itemsOf, Sort, toRead, bothWays, mappings, feedersOf, feeds, holds, descriptor, isOpen, isBound}
 use Rattle.flow.specs.Links.{linked, used}
-use Rattle.flow.specs.Calls.{Kind, fork, kindNumber, Call, sortOf, Change, change, after}
+use Rattle.flow.specs.Calls.{Kind, mapRead, mapBoth, unmap, fork, exit, kindNumber, Call, isKind, sortOf, Change, change, after}
 use Rattle.flow.specs.Rules.{broken, Numbered, lowestBroken}
 use Rattle.flow.specs.Records.{recordLength, kindOf, frameTests, callOf, recordsOf}
 use Rattle.flow.specs.Refusals.{Need, openDescriptor, boundName, aMapping, usedContainer, needOf, callTests, ruleTests, recordTests, refusal}
@@ -106,6 +106,39 @@ unfoldable pub LinksByCounts : Type 0
 LinksByCounts =
     (t : Tables) (p c : ℕ)
     → (has (feedersOf t p) c ≡ (ltb 0 (mappings t toRead p c) || ltb 0 (mappings t bothWays p c))) × (has (feeds t p) c ≡ ltb 0 (mappings t bothWays p c))
+
+-- the two sorts are the same
+unfoldable pub isSort : Sort → Sort → Bool
+isSort toRead toRead = true
+isSort toRead bothWays = false
+isSort bothWays toRead = false
+isSort bothWays bothWays = true
+
+module _ (t : Tables) (q : Call) (x : Sort) (p c : ℕ) where
+  -- the call maps the pair of process p and container c in the sort x, or unmaps it
+  unfoldable pub mapsIt : Bool
+  mapsIt = ((isKind mapRead q && isSort toRead x) || (isKind mapBoth q && isSort bothWays x)) && (eqb (q .process) p && eqb (descriptor t (q .process) (q .a)) c)
+
+  unfoldable pub unmapsIt : Bool
+  unmapsIt = (isKind unmap q && isSort (sortOf (q .b)) x) && (eqb (q .process) p && eqb (q .a) c)
+
+  -- how many mappings of that sort p then has of c: none if it exits, the parent's if it is forked, else one more, one less or as many
+  unfoldable pub countAfter : ℕ
+  countAfter =
+      elim (isKind exit q && eqb (q .process) p) [
+        | true ↦ 0
+        | false ↦ elim (isKind fork q && eqb (q .a) p) [
+          | true ↦ mappings t x (q .process) c
+          | false ↦ elim mapsIt [ true ↦ suc (mappings t x p c) | false ↦ elim unmapsIt [ true ↦ mappings t x p c - 1 | false ↦ mappings t x p c ] ]
+        ]
+      ]
+
+-- 02, Paper 4: so it is after every call that is not refused
+unfoldable pub CountsAfter : Type 0
+CountsAfter =
+    (steps : List Step) (k : ℕ) (q : Call)
+    → (let t = stateAt steps k .tables in
+    firstThat (callTests t (some q)) ≡ none → (x : Sort) (p c : ℕ) → mappings (change t q .tables) x p c ≡ countAfter t q x p c)
 
 -- each kind has its number, and no other number is known
 unfoldable pub KindsNumbered : Type 0
