@@ -8,7 +8,7 @@ use mathlib.Core.Option.{none}
 use lib.ListN.{getD, length}
 use Rattle.sets.specs.Sets.{has}
 use Rattle.flow.specs.Lists.{firstThat, isNone}
-use Rattle.flow.specs.Box.{containerCount, processCount, descriptorCount, ruleCount, isProcess, isFile, isTarget, mappingLimit, closed, Sort, Rule, State, itemsOf, holds, isLive, mappings, descriptor}
+use Rattle.flow.specs.Box.{containerCount, processCount, descriptorCount, ruleCount, isProcess, isFile, isTarget, closed, Sort, Rule, State, itemsOf, holds, isLive, mappings, descriptor}
 use Rattle.flow.specs.Links.{linked, used, Reaches, reach}
 use Rattle.flow.specs.Rules.{lowestBroken}
 use Rattle.flow.specs.Refusals.{fieldTests}
@@ -37,7 +37,7 @@ pub record Kept (s : State) : Type 0 where
   -- a link joins a process and a device, a file or a pipe
   pub joined : (u v : ℕ) → linked (s .tables) u v ≡ true → ((isTarget u ≡ true) × (isProcess v ≡ true)) ⊎ ((isProcess u ≡ true) × (isTarget v ≡ true))
   -- each count of mappings is at most 255, and where it is above 0 the process is live and maps a device, a file or a pipe (02, Paper 4)
-  pub limited : (x : Sort) (p c : ℕ) → mappings (s .tables) x p c ≤ mappingLimit
+  pub limited : (x : Sort) (p c : ℕ) → mappings (s .tables) x p c ≤ 255
   pub mapping : (x : Sort) (p c : ℕ) → 0 < mappings (s .tables) x p c → (isLive (s .tables) p ≡ true) × (isTarget c ≡ true)
   -- a descriptor is closed or leads to a device, a file or a pipe, a name is unbound or leads to a file or pipe
   pub described : (k : ℕ) → (getD (s .tables .descriptors) k closed ≡ closed) ⊎ (isTarget (getD (s .tables .descriptors) k closed) ≡ true)

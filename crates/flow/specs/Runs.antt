@@ -7,7 +7,7 @@ use mathlib.Core.List.{List, [], _∷_, _++_, map}
 use lib.Dec.{eqb}
 use lib.ListN.{length, replicate}
 use Rattle.flow.specs.Lists.{table}
-use Rattle.flow.specs.Box.{mappingLimit, State, fresh, itemsOf}
+use Rattle.flow.specs.Box.{State, fresh, itemsOf}
 use Rattle.flow.specs.Calls.{Kind, start, openName, create, pipe, device, dup, close, read, write, truncate, mapRead, mapBoth, unmap, unlink, rename, link, fork, exit, label, kindNumber}
 use Rattle.flow.specs.Verdicts.{Answer, refused, rule, allow, inhibit, modify, answerAll, runLog}
 use Rattle.flow.specs.Queries.{Reply, refuse, result, holdersQuery, holdersSlice}
@@ -323,13 +323,13 @@ unfoldable pub filling : List (List ℕ)
 filling =
     call start 0 0 0 0
     ∷ call create 0 0 0 24
-    ∷ replicate mappingLimit (call mapRead 0 0 0 0)
+    ∷ replicate 255 (call mapRead 0 0 0 0)
     ++ (call mapRead 0 0 0 0 ∷ call fork 0 1 0 0 ∷ call mapRead 0 0 0 0 ∷ call mapRead 1 0 0 0 ∷ call unmap 1 24 0 0 ∷ call mapRead 1 0 0 0 ∷ call mapRead 1 0 0 0 ∷ [])
 
 unfoldable pub Filled : Type 0
 Filled =
     answerAll fresh filling .answers
-    ≡ allow ∷ allow ∷ replicate mappingLimit allow ++ (refused 17 ∷ allow ∷ refused 17 ∷ refused 17 ∷ allow ∷ allow ∷ refused 17 ∷ [])
+    ≡ allow ∷ allow ∷ replicate 255 allow ++ (refused 17 ∷ allow ∷ refused 17 ∷ refused 17 ∷ allow ∷ allow ∷ refused 17 ∷ [])
 
 -- ---- contents do move
 -- the sum of the contents of what links to a container
