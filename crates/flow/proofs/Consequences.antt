@@ -9,7 +9,9 @@ use mathlib.Core.Option.{Option, none, some}
 use lib.ListN.{getD, length, take, length-append, List·getD-append}
 use lib.Seq.{getD-append-seam}
 use Rattle.flow.specs.Lists.{firstThat, isNone}
-use Rattle.flow.specs.Box.{Rule, State, holds}
+use Rattle.sets.specs.Sets.{has}
+use Rattle.flow.specs.Box.{isTarget, containerOf, Rule, Tables, State, feedersOf, feeds, holds}
+use Rattle.flow.specs.Links.{linked}
 use Rattle.flow.specs.Calls.{Call, Change, change, after}
 use Rattle.flow.specs.Rules.{Numbered, lowestBroken}
 use Rattle.flow.specs.Records.{Reading, unreadable, aCall, aRule, reading, callRead, callOf, recordsOf}
@@ -17,16 +19,34 @@ use Rattle.flow.specs.Refusals.{callTests, testsOf, refusal}
 use Rattle.flow.specs.Verdicts.{Outcome, refuses, loads, allows, inhibits, modifies, diversion, mayDivert, breaksNone, stopped, verdictBy, verdict, outcomeOfCall, outcomeOfRule, outcomeOf, outcome, refused, rule, allow, inhibit, answerOf, answer, stateAfter, next, answerAll, runLog}
 use Rattle.flow.specs.Contents.{Step, entry, memory, stepState, stateAt}
 use Rattle.flow.specs.Consequences.{LinksByCounts, PassedBreaksNone, VerdictExactly, NoGainAllowed, StoppedKeeps, OneAnswerEach, AnswersInOrder, LogIsSteps}
-use Rattle.flow.proofs.Bools.{choice}
+use Rattle.flow.proofs.Bools.{by, no-both, choice}
 use Rattle.flow.proofs.TableLaws.{none-is}
 use Rattle.flow.proofs.Refused.{refusal-read}
 use Rattle.flow.proofs.Judging.{none-broken}
+use Rattle.flow.proofs.Reach.{link-cases, link-in, link-out}
+use Rattle.flow.proofs.Rows.{target-not}
 use Rattle.flow.proofs.Mapping.{fed-by-count, feeder-by-count}
 
 -- ---- links by counts
+-- the links between a process and a device, file or pipe are those of the process's two sets
+module _ (t : Tables) (p c : ℕ) (hp : p < 16) (hc : isTarget c ≡ true) where
+  from-target : linked t c (containerOf p) ≡ has (feedersOf t p) c
+  from-target =
+      by (has (feedersOf t p) c) (λ e. link-in t p hp c e ∙ sym e)
+      (λ e. by (linked t c (containerOf p))
+      (link-cases t c (containerOf p) (λ q hq d h. let z : q ≡ p = omega arith in no-both (rw z at h) e) (λ q hq d h. absurd (target-not c hc (omega arith) (omega arith))))
+      (λ f. f ∙ sym e))
+
+  to-target : linked t (containerOf p) c ≡ has (feeds t p) c
+  to-target =
+      by (has (feeds t p) c) (λ e. link-out t p hp c e ∙ sym e)
+      (λ e. by (linked t (containerOf p) c)
+      (link-cases t (containerOf p) c (λ q hq d h. absurd (target-not c hc (omega arith) (omega arith))) (λ q hq d h. let z : q ≡ p = omega arith in no-both (rw z at h) e))
+      (λ f. f ∙ sym e))
+
 pub links-by-counts : LinksByCounts
 unfolding LinksByCounts
-links-by-counts t p c = (feeder-by-count t p c, fed-by-count t p c)
+links-by-counts t p c hp hc = (from-target t p c hp hc ∙ feeder-by-count t p c, to-target t p c hp hc ∙ fed-by-count t p c)
 
 -- ---- no rule is broken after a change
 unfoldable Whole : State → Outcome → Type 0

@@ -8,9 +8,8 @@ use mathlib.Core.List.{List, [], _∷_, _++_, map}
 use mathlib.Core.Option.{none, some}
 use lib.Dec.{ltb, eqb}
 use lib.ListN.{getD, length, take, drop}
-use Rattle.sets.specs.Sets.{has}
 use Rattle.flow.specs.Lists.{isIn, Test, firstThat}
-use Rattle.flow.specs.Box.{containerCount, itemCount, processCount, descriptorCount, containerOf, Rule, Tables, State, itemsOf, Sort, toRead, bothWays, mappings, feedersOf, feeds, holds, descriptor, isOpen, isBound}
+use Rattle.flow.specs.Box.{containerCount, itemCount, processCount, descriptorCount, isTarget, containerOf, Rule, Tables, State, itemsOf, Sort, toRead, bothWays, mappings, holds, descriptor, isOpen, isBound}
 use Rattle.flow.specs.Links.{linked, used}
 use Rattle.flow.specs.Calls.{Kind, mapRead, mapBoth, unmap, fork, exit, kindNumber, Call, isKind, sortOf, Change, change, after}
 use Rattle.flow.specs.Rules.{broken, Numbered, lowestBroken}
@@ -101,11 +100,13 @@ NumberTells =
     × (answer s bytes ≡ refused 16 → Lacks bytes aMapping (λ q. mappings t (sortOf (q .b)) (q .process) (q .a) ≡ 0))
     × (answer s bytes ≡ refused 8 → Lacks bytes usedContainer (λ q. used t (q .a) ≡ false)))
 
--- 02, Paper 4: the link from container c to process p is there while either count is above 0, the link from p to c while the two-way count is
+-- 02, Paper 4: between a process p and a device, file or pipe c the link to p is there while either count is above 0, the link to c while the
+-- two-way count is
 unfoldable pub LinksByCounts : Type 0
 LinksByCounts =
-    (t : Tables) (p c : ℕ)
-    → (has (feedersOf t p) c ≡ (ltb 0 (mappings t toRead p c) || ltb 0 (mappings t bothWays p c))) × (has (feeds t p) c ≡ ltb 0 (mappings t bothWays p c))
+    (t : Tables) (p c : ℕ) → p < processCount → isTarget c ≡ true
+    → (linked t c (containerOf p) ≡ (ltb 0 (mappings t toRead p c) || ltb 0 (mappings t bothWays p c)))
+    × (linked t (containerOf p) c ≡ ltb 0 (mappings t bothWays p c))
 
 -- the two sorts are the same
 unfoldable pub isSort : Sort → Sort → Bool
