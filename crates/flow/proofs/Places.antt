@@ -1,24 +1,26 @@
--- The test that decides stands at the earliest place; no record meets two numbers of one place; what the numbers of 8's place say.
+-- The test that decides stands at the earliest place; no record meets two numbers of one place; what the numbers of 8's place say, and 17.
 use Prim.Native.Nat.{ℕ, zero, suc, _≤_, _<_}
 use native.Mathlib.Nat.{le-refl}
 use native.Mathlib.Omega.{arith}
 use mathlib.Core.Path.{_≡_, refl, sym, ap, _∙_}
-use mathlib.Core.Bool.{Bool, true, false, not, _&&_, _||_}
+use mathlib.Core.Logic.{inl, inr}
+use mathlib.Core.Bool.{Bool, true, false, not, _&&_, _||_, false≢true}
 use mathlib.Core.List.{List, [], _∷_, _++_}
 use mathlib.Core.Option.{Option, none, some}
 use lib.Dec.{leb, eqb}
-use lib.ListN.{getD}
-use borrow.Author.Tests.{leb-true, eq-eqb, eqb-true, not-true}
+use lib.ListN.{getD, take}
+use borrow.Author.Tests.{leb-true, le-leb, eq-eqb, eqb-true, not-true}
 use Rattle.flow.specs.Lists.{isIn, Test, _⇒_, firstThat}
-use Rattle.flow.specs.Box.{Rule, Tables, State, mappings, isOpen, isBound}
+use Rattle.flow.specs.Box.{Sort, toRead, bothWays, Rule, Tables, State, mappings, descriptor, isOpen, isBound}
 use Rattle.flow.specs.Links.{used}
-use Rattle.flow.specs.Calls.{Call, sortOf}
+use Rattle.flow.specs.Calls.{mapRead, mapBoth, kindNumber, Call, isKind, sortOf}
 use Rattle.flow.specs.Records.{tagOf, callTag, valueOf, callIn, ruleIn, aCall, aRule, frameTests, contentOf, readingBy, reading, callRead, callOf}
-use Rattle.flow.specs.Refusals.{Need, noNeed, openDescriptor, boundName, aMapping, usedContainer, needOf, missing, callTests, fieldTests, ruleTests, testsOf, recordTests, refusal}
+use Rattle.flow.specs.Refusals.{Need, noNeed, openDescriptor, boundName, aMapping, usedContainer, needOf, missing, full, callTests, fieldTests, ruleTests, testsOf, recordTests, refusal}
 use Rattle.flow.specs.Verdicts.{refused, answer}
-use Rattle.flow.specs.Consequences.{RefusedExactly, FirstDecides, Applies, this-test, later-test, places, placeIn, placeOf, StandAt, TestsInPlace, EarliestPlace, OneOfAPlace, Lacks, NumberTells}
-use Rattle.flow.proofs.Bools.{and-l, and-r, no-both, choice}
+use Rattle.flow.specs.Consequences.{RefusedExactly, FirstDecides, Applies, this-test, later-test, places, placeIn, placeOf, StandAt, TestsInPlace, EarliestPlace, OneOfAPlace, Lacks, NumberTells, AtLimit, FullTold, FullExactly}
+use Rattle.flow.proofs.Bools.{or-elim, or-l, or-r, and-l, and-r, and-i, no-both, choice}
 use Rattle.flow.proofs.TableLaws.{first-some, first-none, holding}
+use Rattle.flow.proofs.KindLaws.{kind-is}
 use Rattle.flow.proofs.Refused.{refused-exactly}
 
 -- ---- the first test of a list
@@ -233,27 +235,27 @@ call-lacks t q n at e =
     let c = tests-in-place .1 t q in
     at-place n 7 (5 ∷ 6 ∷ 7 ∷ []) (9 ∷ 10 ∷ 17 ∷ []) (_ ∷ _ ∷ _ ∷ []) (_ ∷ _ ∷ _ ∷ []) _ (c .0, (c .1 .0, (c .1 .1 .0, tt))) (c .1 .1 .1 .1) at refl refl e
 
--- a record that is refused with one of them is a call that lacks what it needs
-record-lacks : (s : State) (bytes : List ℕ) (n : ℕ) → placeOf n ≡ placeOf 8 → answer s bytes ≡ refused n
-    → (q : Call) × (callOf bytes ≡ some q) × (missing (s .tables) (q .process) (q .a) (q .b) (needOf (q .kind)) ≡ some n)
-unfolding RefusedExactly TestsInPlace refusal recordTests reading readingBy callOf callRead contentOf testsOf away placeOf places placeIn isIn
-record-lacks s bytes n at e = of-frame (firstThat (frameTests bytes)) refl
+-- a record that is refused with a number of another place than those of the frame, of an unknown kind and of a rule is a call
+record-call : (s : State) (bytes : List ℕ) (n p : ℕ) → placeOf n ≡ p → away p (1 ∷ 2 ∷ 3 ∷ []) ≡ true → away p (4 ∷ []) ≡ true → away p (4 ∷ 5 ∷ 9 ∷ 11 ∷ 12 ∷ []) ≡ true
+    → answer s bytes ≡ refused n → (q : Call) × (callOf bytes ≡ some q) × (firstThat (callTests (s .tables) (some q)) ≡ some n)
+unfolding RefusedExactly TestsInPlace refusal recordTests reading readingBy callOf callRead contentOf testsOf
+record-call s bytes n p at x y z e = of-frame (firstThat (frameTests bytes)) refl
   where
     Found : Type 0
-    Found = (q : Call) × (callRead (reading bytes) ≡ some q) × (missing (s .tables) (q .process) (q .a) (q .b) (needOf (q .kind)) ≡ some n)
+    Found = (q : Call) × (callRead (reading bytes) ≡ some q) × (firstThat (callTests (s .tables) (some q)) ≡ some n)
 
     refuses : refusal s bytes ≡ some n
     refuses = refused-exactly s bytes n .0 e
 
     of-call : (o : Option Call) → reading bytes ≡ aCall o → firstThat (callTests (s .tables) o) ≡ some n → Found
-    of-call none r g = absurd (elsewhere n 7 (4 ∷ []) _ (tests-in-place .2 (s .tables)) g at refl)
-    of-call (some q) r g = (q, rw r refl, call-lacks (s .tables) q n at g)
+    of-call none r g = absurd (elsewhere n p (4 ∷ []) _ (tests-in-place .2 (s .tables)) g at y)
+    of-call (some q) r g = (q, rw r refl, g)
 
     of-content : reading bytes ≡ contentOf bytes → firstThat (testsOf s (contentOf bytes)) ≡ some n → Found
     of-content =
         choice (λ x. reading bytes ≡ x → firstThat (testsOf s x) ≡ some n → Found) (eqb (tagOf bytes) callTag) (aCall (callIn (valueOf bytes))) (aRule (ruleIn (tagOf bytes) (valueOf bytes)))
         (λ d. of-call (callIn (valueOf bytes)))
-        (λ d r g. absurd (elsewhere n 7 (4 ∷ 5 ∷ 9 ∷ 11 ∷ 12 ∷ []) _ (tests-in-place .3 s _) g at refl))
+        (λ d r g. absurd (elsewhere n p (4 ∷ 5 ∷ 9 ∷ 11 ∷ 12 ∷ []) _ (tests-in-place .3 s _) g at z))
 
     of-frame : (o : Option ℕ) → firstThat (frameTests bytes) ≡ o → Found
     of-frame none f = of-content (ap (readingBy bytes) f) (sym (first-none (frameTests bytes) (testsOf s (contentOf bytes)) f) ∙ refuses)
@@ -261,7 +263,13 @@ record-lacks s bytes n at e = of-frame (firstThat (frameTests bytes)) refl
         let g = first-some (frameTests bytes) (testsOf s (contentOf bytes)) k f in
         let w : _≡_ {A = Option ℕ} (some n) (some k) = sym refuses ∙ g in
         let d : n ≡ k = cc in
-        absurd (elsewhere k 7 (1 ∷ 2 ∷ 3 ∷ []) _ (tests-in-place .0 bytes) f (ap placeOf (sym d) ∙ at) refl)
+        absurd (elsewhere k p (1 ∷ 2 ∷ 3 ∷ []) _ (tests-in-place .0 bytes) f (ap placeOf (sym d) ∙ at) x)
+
+-- one that is refused with a number of 8's place lacks what it needs
+record-lacks : (s : State) (bytes : List ℕ) (n : ℕ) → placeOf n ≡ placeOf 8 → answer s bytes ≡ refused n
+    → (q : Call) × (callOf bytes ≡ some q) × (missing (s .tables) (q .process) (q .a) (q .b) (needOf (q .kind)) ≡ some n)
+unfolding away placeOf places placeIn isIn
+record-lacks s bytes n at e = let h = record-call s bytes n 7 at refl refl refl e in (h .0, h .1, call-lacks (s .tables) (h .0) n at (h .2))
 
 -- the number is another
 other : {n m : ℕ} {A B P : Type 0} → eqb n m ≡ false → n ≡ m → A → B → P
@@ -274,4 +282,46 @@ number-tells s bytes = (
   λ e. let h = record-lacks s bytes 15 refl e in let q = h .0 in need-cases (s .tables) (q .process) (q .a) (q .b) (needOf (q .kind)) 15 (h .2) (other refl) (λ n y z. (q, h .1, y, z)) (other refl) (other refl),
   λ e. let h = record-lacks s bytes 16 refl e in let q = h .0 in need-cases (s .tables) (q .process) (q .a) (q .b) (needOf (q .kind)) 16 (h .2) (other refl) (other refl) (λ n y z. (q, h .1, y, z)) (other refl),
   λ e. let h = record-lacks s bytes 8 refl e in let q = h .0 in need-cases (s .tables) (q .process) (q .a) (q .b) (needOf (q .kind)) 8 (h .2) (other refl) (other refl) (other refl) (λ n y z. (q, h .1, y, z)),
+)
+
+-- ---- 17
+last-test : (b : Bool) → b ≡ true → firstThat ((b ⇒ 17) ∷ []) ≡ some 17
+unfolding firstThat _⇒_
+last-test true e = refl
+last-test false e = absurd (false≢true e)
+
+module _ (t : Tables) (q : Call) where
+  abbrev countOf : Sort → ℕ
+  countOf x = mappings t x (q .process) (descriptor t (q .process) (q .a))
+
+  -- the test as the words have it
+  full-limit : full t q ≡ true → AtLimit t q
+  unfolding full AtLimit
+  full-limit h =
+      or-elim (isKind mapRead q && leb 255 (countOf toRead)) (isKind mapBoth q && leb 255 (countOf bothWays))
+      (λ e. inl (kind-is mapRead q (and-l _ (leb 255 (countOf toRead)) e), leb-true 255 (countOf toRead) (and-r (isKind mapRead q) _ e)))
+      (λ e. inr (kind-is mapBoth q (and-l _ (leb 255 (countOf bothWays)) e), leb-true 255 (countOf bothWays) (and-r (isKind mapBoth q) _ e)))
+      h
+
+  limit-full : AtLimit t q → full t q ≡ true
+  unfolding full AtLimit isKind
+  limit-full (inl h) = or-l _ (isKind mapBoth q && leb 255 (countOf bothWays)) (and-i (isKind mapRead q) _ (eq-eqb _ _ (ap kindNumber (h .0))) (le-leb 255 (countOf toRead) (h .1)))
+  limit-full (inr h) = or-r (isKind mapRead q && leb 255 (countOf toRead)) _ (and-i (isKind mapBoth q) _ (eq-eqb _ _ (ap kindNumber (h .0))) (le-leb 255 (countOf bothWays) (h .1)))
+
+  -- a call that is refused with 17 is one at the limit
+  call-full : firstThat (callTests t (some q)) ≡ some 17 → full t q ≡ true
+  unfolding TestsInPlace StandAt callTests away placeOf places placeIn isIn
+  call-full e =
+      let c = tests-in-place .1 t q in
+      holding _ 17 17 (at-place 17 10 (5 ∷ 6 ∷ 7 ∷ 8 ∷ 9 ∷ 10 ∷ []) [] (_ ∷ _ ∷ _ ∷ _ ∷ _ ∷ _ ∷ []) [] _ (c .0, (c .1 .0, (c .1 .1 .0, (c .1 .1 .1 .0, (c .1 .1 .1 .1 .0, (c .1 .1 .1 .1 .1 .0, tt)))))) tt refl refl refl e) .0
+
+pub full-told : FullTold
+unfolding FullTold away placeOf places placeIn isIn
+full-told s bytes e = let h = record-call s bytes 17 10 refl refl refl refl e in (h .0, h .1, full-limit (s .tables) (h .0) (call-full (s .tables) (h .0) (h .2)))
+
+pub full-exactly : FullExactly
+unfolding FullExactly callTests
+full-exactly t q h = (
+  λ e. full-limit t q (call-full t q e),
+  λ l. first-none (take 6 (callTests t (some q))) ((full t q ⇒ 17) ∷ []) h ∙ last-test (full t q) (limit-full t q l),
 )

@@ -2,7 +2,7 @@
 -- that steps make.
 use Prim.Native.Nat.{ℕ, suc, _-_, _≤_, _<_}
 use mathlib.Core.Path.{_≡_}
-use mathlib.Core.Logic.{_↔_}
+use mathlib.Core.Logic.{_⊎_, _↔_}
 use mathlib.Core.Bool.{Bool, true, false, _&&_, _||_}
 use mathlib.Core.List.{List, [], _∷_, _++_, map}
 use mathlib.Core.Option.{none, some}
@@ -99,6 +99,21 @@ NumberTells =
     × (answer s bytes ≡ refused 15 → Lacks bytes boundName (λ q. isBound t (q .a) ≡ false))
     × (answer s bytes ≡ refused 16 → Lacks bytes aMapping (λ q. mappings t (sortOf (q .b)) (q .process) (q .a) ≡ 0))
     × (answer s bytes ≡ refused 8 → Lacks bytes usedContainer (λ q. used t (q .a) ≡ false)))
+
+-- the call maps for reading, or both ways, and its process has at least 255 mappings of that sort of the container that descriptor a leads to
+unfoldable pub AtLimit : Tables → Call → Type 0
+AtLimit t q =
+    let c = descriptor t (q .process) (q .a) in
+    ((q .kind ≡ mapRead) × (255 ≤ mappings t toRead (q .process) c)) ⊎ ((q .kind ≡ mapBoth) × (255 ≤ mappings t bothWays (q .process) c))
+
+-- 02, Paper 4: only such a call is refused with 17
+unfoldable pub FullTold : Type 0
+FullTold = (s : State) (bytes : List ℕ) → answer s bytes ≡ refused 17 → (q : Call) × (callOf bytes ≡ some q) × AtLimit (s .tables) q
+
+-- and where none of the six tests before it holds (5 to 10), each such call is
+unfoldable pub FullExactly : Type 0
+FullExactly =
+    (t : Tables) (q : Call) → firstThat (take 6 (callTests t (some q))) ≡ none → firstThat (callTests t (some q)) ≡ some 17 ↔ AtLimit t q
 
 -- 02, Paper 4: between a process p and a device, file or pipe c the link to p is there while either count is above 0, the link to c while the
 -- two-way count is
