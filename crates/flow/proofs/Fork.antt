@@ -1,12 +1,13 @@
--- A forked child has the parent's items, descriptors and links, in each direction.
+-- A forked child has the parent's items, descriptors, counts of mappings and links, in each direction.
 use Prim.Native.Nat.{ℕ, _<_}
 use native.Mathlib.Omega.{arith}
 use mathlib.Core.Path.{_≡_, refl, sym, ap, _∙_}
 use mathlib.Core.Bool.{true}
-use lib.ListN.{length}
+use mathlib.Core.List.{List}
+use lib.ListN.{getD, length}
 use lib.Seq.{getD-set-same}
 use Rattle.sets.specs.Sets.{has}
-use Rattle.flow.specs.Box.{containerOf, Tables, State, itemsOf, rowOf, feedersOf, feeds, descriptor}
+use Rattle.flow.specs.Box.{containerOf, Tables, State, itemsOf, Sort, toRead, bothWays, rowOf, mappings, feedersOf, feeds, descriptor}
 use Rattle.flow.specs.Links.{linked, used}
 use Rattle.flow.specs.Calls.{fork, Call, change, withLive, withDescriptors, tablesBy, flowBy, after}
 use Rattle.flow.specs.Contents.{stateAt}
@@ -14,7 +15,7 @@ use Rattle.flow.specs.Consequences.{ForkCopies}
 use Rattle.flow.proofs.Bools.{by, no-both}
 use Rattle.flow.proofs.Reach.{link-cases, link-in, link-out}
 use Rattle.flow.proofs.Rows.{target-not, now-live}
-use Rattle.flow.proofs.Mapping.{child-in, child-out}
+use Rattle.flow.proofs.Mapping.{child-row, child-in, child-out}
 use Rattle.flow.proofs.Use.{used-process, feeder-row, fed-row}
 use Rattle.flow.proofs.Moves.{source-copy, copy-at}
 use Rattle.flow.proofs.After.{Linking, after-in-use}
@@ -54,6 +55,11 @@ module _ (s : Tables) (k : Linking s) (p a : ℕ) (hp : p < 16) (ha : a < 16) wh
   unfolding tablesBy withLive withDescriptors rowOf feeds
   child-fed = child-out s k p a hp ha
 
+  child-counts : (x : Sort) (c : ℕ) → mappings child x a c ≡ mappings s x p c
+  unfolding tablesBy withLive withDescriptors rowOf mappings
+  child-counts toRead c = ap (λ (row : List ℕ). getD row c 0) (child-row s k p a hp ha toRead)
+  child-counts bothWays c = ap (λ (row : List ℕ). getD row c 0) (child-row s k p a hp ha bothWays)
+
   child-linking : Linking child
   child-linking = linking-fork s k p a 0 0 ha hp
 
@@ -70,6 +76,7 @@ fork-copies steps n p a hp ha e =
       after-in-use s (change (s .tables) q) (containerOf a) (omega arith) (child-used (s .tables) k p a hp ha)
           ∙ copy-at s (containerOf p) (containerOf a) (containerOf a) (omega arith) ∙ ap (itemsOf s) (source-copy (containerOf p) (containerOf a) (containerOf a) refl),
       λ d hd. put-same (s .tables .descriptors) _ a (state-kept steps n .quiet .size) (block-length (s .tables .descriptors) p (state-kept steps n .quiet .size) hp) ha d hd ∙ block-at (s .tables .descriptors) p d hd,
+      child-counts (s .tables) k p a hp ha,
       λ u. into-process (child (s .tables) k p a hp ha) (child-linking (s .tables) k p a hp ha) a ha u
           ∙ ap (λ (x : ℕ). has x u) (child-feeders (s .tables) k p a hp ha) ∙ sym (into-process (s .tables) k p hp u),
       λ v. out-of-process (child (s .tables) k p a hp ha) (child-linking (s .tables) k p a hp ha) a ha v

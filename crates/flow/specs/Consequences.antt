@@ -1,5 +1,5 @@
--- Short consequences of the definitions. They hold for every state and every byte string, but for the last two, which speak of the states
--- that steps make.
+-- Short consequences of the definitions. They hold for every state and every byte string, but for CountsAfter, LogIsSteps and ForkCopies,
+-- which speak of the states that steps make.
 use Prim.Native.Nat.{ℕ, suc, _-_, _≤_, _<_}
 use mathlib.Core.Path.{_≡_}
 use mathlib.Core.Logic.{_⊎_, _↔_}
@@ -149,7 +149,8 @@ module _ (t : Tables) (q : Call) (x : Sort) (p c : ℕ) where
         ]
       ]
 
--- 02, Paper 4: so it is after every call that is not refused
+-- 02, Paper 4: what every call that is not refused makes of the counts, where no rule stops it. The change is that of the call itself; it is
+-- made where the call is allowed
 unfoldable pub CountsAfter : Type 0
 CountsAfter =
     (steps : List Step) (k : ℕ) (q : Call)
@@ -255,11 +256,15 @@ LogIsSteps =
     (steps : List Step) (log : List ℕ)
     → (let more = steps ++ map entry (recordsOf log) in runLog (stateAt steps (length steps)) log .state ≡ stateAt more (length more))
 
--- a forked child has the parent's items, descriptors and links, in each direction
+-- a forked child has the parent's items, descriptors, counts of mappings (02, Paper 4) and links, in each direction
 unfoldable pub ForkCopies : Type 0
 ForkCopies =
     (steps : List Step) (k p a : ℕ) → p < processCount → a < processCount
     → (let s = stateAt steps k in
     let t = after s (change (s .tables) (record { kind = fork; process = p; a = a; b = 0; c = 0 })) in
     used (s .tables) (containerOf a) ≡ false
-    → (itemsOf t (containerOf a) ≡ itemsOf s (containerOf p)) × ((d : ℕ) → d < descriptorCount → descriptor (t .tables) a d ≡ descriptor (s .tables) p d) × ((u : ℕ) → linked (t .tables) u (containerOf a) ≡ linked (s .tables) u (containerOf p)) × ((v : ℕ) → linked (t .tables) (containerOf a) v ≡ linked (s .tables) (containerOf p) v))
+    → (itemsOf t (containerOf a) ≡ itemsOf s (containerOf p))
+    × ((d : ℕ) → d < descriptorCount → descriptor (t .tables) a d ≡ descriptor (s .tables) p d)
+    × ((x : Sort) (c : ℕ) → mappings (t .tables) x a c ≡ mappings (s .tables) x p c)
+    × ((u : ℕ) → linked (t .tables) u (containerOf a) ≡ linked (s .tables) u (containerOf p))
+    × ((v : ℕ) → linked (t .tables) (containerOf a) v ≡ linked (s .tables) (containerOf p) v))
