@@ -13,14 +13,14 @@ use Rattle.flow.specs.Refusals.{inRange, ranges, fieldsFit, dead, taken,
 use Rattle.flow.specs.Verdicts.{diversion, mayDivert, breaksNone, stopped, verdictBy, verdict, outcomeOfCall, outcomeOfRule, outcomeOf as outcomeRead, outcome, answerOf, answer, withRule, stateAfter, next, answerAll, runLog}
 use Rattle.flow.specs.Queries.{holders, holdersRefusal, replyBy, holdersQuery, sliceBy, holdersSlice}
 use Rattle.flow.specs.Contents.{flowed, changed, contentsAfter, linkedTo, stepContents, stepState, stateAt, runAt, labelOf, itemLabelled}
-use Rattle.flow.specs.Runs.{outcomeOf, call, shared, filed, renamed, spare, thirtyTwo, allowed, starred, Starred, further, Further, lacking, Lacking, total, remembered, copying, carried, chained, Moves, repliedIn, replied, falling, asked, HoldersAsked, twoSides, mappingBoth, MappingBoth, nested, twoSorts, mappedTwice, MappedTwice, Filled}
+use Rattle.flow.specs.Runs.{outcomeOf, call, shared, filed, renamed, spare, thirtyTwo, allowed, starred, Starred, further, Further, lacking, Lacking, total, remembered, copying, carried, chained, unmappedOnce, Moves, repliedIn, replied, falling, asked, HoldersAsked, twoSides, mappingBoth, MappingBoth, nested, twoSorts, mappedTwice, MappedTwice, Filled}
 use Rattle.flow.proofs.Filling.{Opened, filled}
 use Rattle.flow.specs.AtOnce.{movedAtOnce, afterAtOnce, verdictAtOnce, outcomeOfCallAtOnce, outcomeOfAtOnce, outcomeAtOnce, stateAfterAtOnce, nextAtOnce, torn, Torn, FormsDiffer}
 
 -- together, since each would unfold the same definitions
 all-runs : Starred × Further × Lacking × HoldersAsked × MappingBoth × FormsDiffer × Torn × Moves × MappedTwice × Opened
-unfolding has only _∪_ _∩_ bit thoseFrom those without tableFrom table someBelow isIn firstThat _⇒_ isDevice isProcess isFile fresh itemsOf rowOf mappings mappedIn feedersOf feeds descriptor name isTarget linked meets through throughEach closure reach given mapped used kindNumber withLive withDescriptors withNames withRow withRows raised lowered sortOf putBlock block isFed tablesBy flowBy change moved ended itemsAfter after holds breaks broken firstBroken lowestBroken forbids byteAt tagOf statedLength recordLength valueOf cutShort knownTag tagLength wrongLength kinds kindOf callBy callFrom callIn conditionOf numberFrom setIn ruleWith ruleIn frameTests contentOf readingBy reading callRead callOf recordsIn recordsOf inRange ranges fieldsFit isLive isOpen isBound dead taken needOf missing sameDescriptors noFile full callTests itemsFit substituteFits sameItems fieldTests ruleTests noMappings noTables isNone isKind diversion mayDivert breaksNone stopped verdictBy verdict outcomeOfCall outcomeOfRule outcomeRead outcome answerOf answer withRule stateAfter next answerAll runLog flowed changed contentsAfter linkedTo stepContents stepState stateAt runAt labelOf itemLabelled outcomeOf call shared filed renamed spare thirtyTwo allowed starred Starred total remembered copying carried chained Moves further Further lacking Lacking repliedIn replied falling asked HoldersAsked holders holdersRefusal replyBy holdersQuery sliceBy holdersSlice risingFrom rising twoSides mappingBoth MappingBoth nested twoSorts mappedTwice MappedTwice Opened inSequence atOnce movedAtOnce afterAtOnce verdictAtOnce outcomeOfCallAtOnce outcomeOfAtOnce outcomeAtOnce stateAfterAtOnce nextAtOnce torn Torn FormsDiffer
-all-runs = ((refl, refl), refl, refl, refl, refl, (refl, refl, refl, refl), (λ rules. (refl, refl, refl)), (refl, refl, refl, refl, refl, refl, refl, refl, refl, refl), refl, (refl, refl, refl, refl, refl, refl))
+unfolding has only _∪_ _∩_ bit thoseFrom those without tableFrom table someBelow isIn firstThat _⇒_ isDevice isProcess isFile fresh itemsOf rowOf mappings mappedIn feedersOf feeds descriptor name isTarget linked meets through throughEach closure reach given mapped used kindNumber withLive withDescriptors withNames withRow withRows raised lowered sortOf putBlock block isFed tablesBy flowBy change moved ended itemsAfter after holds breaks broken firstBroken lowestBroken forbids byteAt tagOf statedLength recordLength valueOf cutShort knownTag tagLength wrongLength kinds kindOf callBy callFrom callIn conditionOf numberFrom setIn ruleWith ruleIn frameTests contentOf readingBy reading callRead callOf recordsIn recordsOf inRange ranges fieldsFit isLive isOpen isBound dead taken needOf missing sameDescriptors noFile full callTests itemsFit substituteFits sameItems fieldTests ruleTests noMappings noTables isNone isKind diversion mayDivert breaksNone stopped verdictBy verdict outcomeOfCall outcomeOfRule outcomeRead outcome answerOf answer withRule stateAfter next answerAll runLog flowed changed contentsAfter linkedTo stepContents stepState stateAt runAt labelOf itemLabelled outcomeOf call shared filed renamed spare thirtyTwo allowed starred Starred total remembered copying carried chained unmappedOnce Moves further Further lacking Lacking repliedIn replied falling asked HoldersAsked holders holdersRefusal replyBy holdersQuery sliceBy holdersSlice risingFrom rising twoSides mappingBoth MappingBoth nested twoSorts mappedTwice MappedTwice Opened inSequence atOnce movedAtOnce afterAtOnce verdictAtOnce outcomeOfCallAtOnce outcomeOfAtOnce outcomeAtOnce stateAfterAtOnce nextAtOnce torn Torn FormsDiffer
+all-runs = ((refl, refl), refl, refl, refl, refl, (refl, refl, refl, refl), (λ rules. (refl, refl, refl)), (refl, refl, refl, refl, refl, refl, refl, refl, refl, refl, refl, refl), refl, (refl, refl, refl, refl, refl, refl))
 
 pub starred-runs : Starred
 starred-runs = all-runs .0

@@ -1,4 +1,4 @@
--- Document 01, Runs to check: the starred runs as one list, and two examples that contents do move. 02, Paper 1: the holders after some logs;
+-- Document 01, Runs to check: the starred runs as one list, and examples that contents do move. 02, Paper 1: the holders after some logs;
 -- Paper 2: which thing was missing; Paper 3: map both; Paper 4: mapped twice.
 use Prim.Native.Nat.{ℕ, _+_}
 use mathlib.Core.Path.{_≡_}
@@ -366,6 +366,18 @@ chained =
     ∷ memory
     ∷ []
 
+-- 02, Paper 4: process 0 maps 24 for reading twice and unmaps it once; 24 is labelled with item 1, and a memory step follows
+unfoldable pub unmappedOnce : List Step
+unmappedOnce =
+    step start 0 0 0 0
+    ∷ step create 0 0 0 24
+    ∷ step mapRead 0 0 0 0
+    ∷ step mapRead 0 0 0 0
+    ∷ step unmap 0 24 0 0
+    ∷ step label 0 24 1 0
+    ∷ memory
+    ∷ []
+
 -- the contents of container c at the end of n steps, where 24 alone takes gifts, or every container does
 abbrev alone : ℕ → List Step → ℕ → ℕ → ℕ
 alone input steps n c = runAt (copying (λ v old g. elim (eqb v 24) [ true ↦ g | false ↦ old ])) (λ k. input) steps n .contents c
@@ -375,8 +387,9 @@ each input steps n c = runAt (copying (λ v old g. g)) (λ k. input) steps n .co
 
 -- The contents of device 1, recorded as holding item 1, differ with the input; those of device 2 don't. Where the label's gift changes 24
 -- alone, the first memory step carries it to process 0 (container 8) and the second to 25; both were recorded as holding item 1 before.
+-- Over the link that one unmap of two leaves, the memory step carries it to process 0.
 unfoldable pub Moves : Type 0
 Moves =
     (itemsOf (stateAt carried 6) 1 ≡ 2) × (each 7 carried 6 1 ≡ 7) × (each 9 carried 6 1 ≡ 9) × (each 7 carried 6 2 ≡ 0)
     × (itemsOf (stateAt chained 6) 25 ≡ 2) × (alone 7 chained 6 8 ≡ 0) × (alone 7 chained 7 8 ≡ 7) × (alone 7 chained 7 25 ≡ 0)
-    × (alone 7 chained 8 25 ≡ 7) × (alone 9 chained 8 25 ≡ 9)
+    × (alone 7 chained 8 25 ≡ 7) × (alone 9 chained 8 25 ≡ 9) × (alone 7 unmappedOnce 7 8 ≡ 7) × (alone 9 unmappedOnce 7 8 ≡ 9)
