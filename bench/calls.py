@@ -20,7 +20,8 @@ BY_VALUE = ROOT / "target" / "bin" / "test_calls"
 
 MOST_INSTRUCTIONS = 6000  # of any call in the worst state
 USUAL_INSTRUCTIONS = 1500  # of more than half of the kinds in the worst state
-MOST_STACK = 16 * 1024
+MOST_STACK = 16 * 1024  # in place
+MOST_COPIED = 24 * 1024  # by value: the tracker is copied
 
 UNKNOWN = Call(0)
 
@@ -108,9 +109,12 @@ def broken_limits(figures: Figures) -> List[str]:
     usual = [kind for kind, count in figures.worst.items() if count < USUAL_INSTRUCTIONS]
     if 2 * len(usual) <= len(figures.worst):
         broken.append(f"only {len(usual)} kinds take less than {USUAL_INSTRUCTIONS:,}")
-    peak = max(figures.stack, figures.whole_stack)
-    if peak >= MOST_STACK:
-        broken.append(f"the stack is {peak:,} bytes, not under {MOST_STACK:,}")
+    for words, peak, most in (
+        ("in place", figures.stack, MOST_STACK),
+        ("by value", figures.whole_stack, MOST_COPIED),
+    ):
+        if peak >= most:
+            broken.append(f"the stack {words} is {peak:,} bytes, not under {most:,}")
     return broken
 
 

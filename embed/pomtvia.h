@@ -147,7 +147,7 @@ POMTVIA_STATIC_ASSERT(offsetof(struct pomtvia_monitor, fields) == 3720, "the rul
 
 /* ---- functions on a monitor */
 
-/* Makes a fresh monitor: no live process, no rules, no items anywhere, no links, every descriptor closed, every name unbound. */
+/* Makes a fresh monitor: no live process, no rules, no items anywhere, no mappings, every descriptor closed, every name unbound. */
 void pomtvia_new(struct pomtvia_monitor *m);
 
 /* What a call gets: its answer. The monitor holds the state after it, worked out where it lies. A refused or inhibited call leaves every

@@ -9,7 +9,7 @@ use Rattle.sets.specs.Sets.{has, only, _∪_, _∩_}
 use Rattle.flow.specs.Lists.{table, someBelow, isIn}
 use Rattle.flow.specs.Box.{containerCount, firstProcess, processCount, isDevice, isProcess, containerOf, Tables, isLive, feedersOf, feeds}
 
--- a link from u to v: v is fed whenever u is. Links join a process and a container that it maps
+-- a link from u to v: v is fed whenever u is. Links join a process and a container that it maps, by its counts (02, Paper 4)
 unfoldable pub linked : Tables → ℕ → ℕ → Bool
 linked t u v = (isProcess v && has (feedersOf t (v - firstProcess)) u) || (isProcess u && has (feeds t (u - firstProcess)) v)
 

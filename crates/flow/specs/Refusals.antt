@@ -1,5 +1,5 @@
 -- Document 01, What a record gets: the table of refusals. For each kind of record one list of tests, of which the first that holds decides
--- (02, Paper 2: the earliest place, not the lowest number).
+-- (02, Paper 2: the earliest place, not the lowest number). Paper 4: 16 by the named sort of mapping, and 17.
 use Prim.Native.Nat.{ℕ}
 use mathlib.Core.Bool.{Bool, true, false, not, _&&_, _||_}
 use mathlib.Core.List.{List, [], _∷_, _++_}

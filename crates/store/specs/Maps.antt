@@ -45,6 +45,7 @@ unfoldable pub putByte : ℕ → ℕ → ℕ → ℕ
 putByte w j n = (w / 2 ^ (8 * j) - byteOf w j + n) * 2 ^ (8 * j) + w % 2 ^ (8 * j)
 
 -- the row of counts of process p: 0 where the set x lacks the container, else one more than its byte. Whatever is stored is a row
+-- (a byte of 255 stands for 256, which no call makes)
 unfoldable pub rowIn : ℕ → List ℕ → ℕ → List ℕ
 rowIn x counts p = table containerCount (λ c. elim (has x c) [ true ↦ suc (byteOf (getD counts (8 * p + c / 8) 0) (c % 8)) | false ↦ 0 ])
 

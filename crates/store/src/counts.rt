@@ -133,7 +133,7 @@ pub fn lower(words: &mut [u64; 353], x: Sort, p: Process, c: Container)
     }
 }
 
-// Makes the eight words of counts number `to` those of number `from`: 16 of either sort.
+// Copies eight words of counts, those of one row to those of another. There are 32 rows: 16 of the one sort, then 16 of the other.
 fn copy_counts(words: &mut [u64], from: usize, to: usize)
     requires { ⌜ (length (now words) ≡ 353) × (from < 32) × (to < 32) ⌝ }
     ensures { λ _. ⌜ now (words .exit) ≡ paste (now (words .entry)) (97 + 8 * to) (part (97 + 8 * from) 8 (now (words .entry))) 8 ⌝ }

@@ -1,5 +1,5 @@
-// The tracker (the information point): which items lie in which container, which containers feed each other, which names and descriptors
-// lead where. It makes the changes of document 01's calls, refuses what the table of refusals refuses, and answers the two queries.
+// The tracker (the information point): which items lie in which container, how often each process maps which containers, which names and
+// descriptors lead where. It makes the changes of document 01's calls, refuses what the table of refusals refuses, and answers the two queries.
 // No rule is judged here.
 pub mod calls;
 pub mod plan;
