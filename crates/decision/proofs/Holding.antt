@@ -12,6 +12,7 @@ use lib.Pow.{pow-pos}
 use lib.Dec.{ltb, leb}
 use lib.ListN.{getD, length}
 use borrow.Author.Tests.{ltb-true}
+use Rattle.sets.proofs.Members.{union-lt}
 use Rattle.flow.specs.Box.{State, isFile, isTarget, Condition, forbid, separate, confine, Rule}
 use Rattle.flow.specs.Rules.{lowestBroken}
 use Rattle.flow.specs.Verdicts.{outcome, answer, next}
@@ -24,7 +25,7 @@ use Rattle.flow.proofs.Consequences.{stopped-keeps}
 use Rattle.flow.proofs.Keeping.{Invariant, state-kept}
 use Rattle.flow.proofs.Bools.{and-l, and-r}
 use Rattle.flow.proofs.Rows.{target-lt, row-of, Rows}
-use Rattle.store.proofs.Packing.{setsFrom, countsFrom, packed-lt}
+use Rattle.store.proofs.Packing.{mapsFrom, waysFrom, countsFrom, packed-lt}
 use Rattle.flow.proofs.Entries.{Each}
 use Rattle.decision.specs.declared.Answer.{Answer}
 use Rattle.decision.specs.declared.Answer.the-variants.{Refused, Allow, Inhibit}
@@ -49,9 +50,13 @@ file-lt : (e : ℕ) → isFile e ≡ true → e < 64
 unfolding isFile
 file-lt e h = ltb-true e 64 (and-r (leb 24 e) _ h)
 
-sets-numbers : {live : ℕ} {rows : List (List ℕ)} → Rows live rows → Numbers 16 (2 ^ 64) (setsFrom rows)
-unfolding setsFrom
-sets-numbers r = table-numbers 16 _ (pow-pos 64) (λ p. row-of (r .row p) .fits)
+maps-numbers : {live : ℕ} {reads boths : List (List ℕ)} → Rows live reads → Rows live boths → Numbers 16 (2 ^ 64) (mapsFrom reads boths)
+unfolding mapsFrom
+maps-numbers r b = table-numbers 16 _ (pow-pos 64) (λ p. union-lt _ _ (row-of (r .row p) .fits) (row-of (b .row p) .fits))
+
+ways-numbers : {live : ℕ} {rows : List (List ℕ)} → Rows live rows → Numbers 16 (2 ^ 64) (waysFrom rows)
+unfolding waysFrom
+ways-numbers r = table-numbers 16 _ (pow-pos 64) (λ p. row-of (r .row p) .fits)
 
 counts-numbers : {live : ℕ} {rows : List (List ℕ)} → Rows live rows → Numbers 128 (2 ^ 64) (countsFrom rows)
 unfolding countsFrom
@@ -83,8 +88,8 @@ module _ (steps : List Step) (h : (n : ℕ) → ofBytes (stepAt steps n)) (k : �
         words =
             append-numbers (one-number (s .tables .live) (b .live))
             (append-numbers (b .items)
-            (append-numbers (sets-numbers (i .linking .reads))
-            (append-numbers (sets-numbers (i .linking .boths)) (append-numbers (counts-numbers (i .linking .reads)) (counts-numbers (i .linking .boths))))));
+            (append-numbers (maps-numbers (i .linking .reads) (i .linking .boths))
+            (append-numbers (ways-numbers (i .linking .boths)) (append-numbers (counts-numbers (i .linking .reads)) (counts-numbers (i .linking .boths))))));
         descriptors = record { size = i .quiet .size; fits = each-below isTarget target-lt (s .tables .descriptors) (i .entries .described) };
         names = record { size = b .names; fits = each-below isFile file-lt (s .tables .names) (i .entries .named) };
         sets = table-numbers 32 _ (pow-pos 64) (state-ruled steps h k .each);

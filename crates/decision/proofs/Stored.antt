@@ -19,9 +19,9 @@ use Rattle.flow.specs.Kept.{wellFormed, allWellFormed}
 use Rattle.flow.proofs.Bools.{and-l, and-r, by}
 use Rattle.flow.proofs.TableLaws.{table-at, table-length, none-is, AllNone, all-none, untrue}
 use Rattle.flow.proofs.Keeping.{Invariant}
-use Rattle.store.specs.Maps.{part, rowsIn, view as mapsOf}
+use Rattle.store.specs.Maps.{part, view as mapsOf}
 use Rattle.store.proofs.Parts.{part-here, part-there}
-use Rattle.store.proofs.Packing.{setsFrom, countsFrom, rows-back}
+use Rattle.store.proofs.Packing.{mapsFrom, waysFrom, countsFrom, reads-back, boths-back}
 use Rattle.rules.specs.Stored.{place, countField, conditionAt, actionAt, substituteAt, ruleAt, countOf, rulesOf}
 use Rattle.rules.proofs.StoredLaws.{count-all, count-full}
 use Rattle.rules.proofs.LoadingLaws.{fit-substitute}
@@ -53,7 +53,7 @@ fieldsOf rs = table 128 (λ i. fieldOf (getD rs (i / 4) blank) (i % 4)) ++ (leng
 unfoldable pub wordsOf : State → List ℕ
 wordsOf s =
     (s .tables .live ∷ [])
-    ++ (s .items ++ (setsFrom (s .tables .reads) ++ (setsFrom (s .tables .boths) ++ (countsFrom (s .tables .reads) ++ countsFrom (s .tables .boths)))))
+    ++ (s .items ++ (mapsFrom (s .tables .reads) (s .tables .boths) ++ (waysFrom (s .tables .boths) ++ (countsFrom (s .tables .reads) ++ countsFrom (s .tables .boths)))))
 
 unfoldable pub held : State → Monitor
 held s = monitor (wordsOf s) (s .tables .descriptors) (s .tables .names) (setsOf (s .rules)) (fieldsOf (s .rules))
@@ -125,31 +125,35 @@ module _ (s : State) (i : Invariant s) (items-size : length (s .items) ≡ 64) w
   boths = s .tables .boths
 
   -- behind the live processes and the items
-  behind : (a n : ℕ) → part (65 + a) n (wordsOf s) ≡ part a n (setsFrom reads ++ (setsFrom boths ++ (countsFrom reads ++ countsFrom boths)))
+  behind : (a n : ℕ) → part (65 + a) n (wordsOf s) ≡ part a n (mapsFrom reads boths ++ (waysFrom boths ++ (countsFrom reads ++ countsFrom boths)))
   unfolding wordsOf
   behind a n =
       ap (λ (k : ℕ). part k n (wordsOf s)) (let e : 65 + a ≡ 1 + (64 + a) = omega arith in e) ∙ part-there (s .tables .live ∷ []) _ 1 (64 + a) n refl
       ∙ part-there (s .items) _ 64 a n items-size
 
-  sets-size : (rows : List (List ℕ)) → length (setsFrom rows) ≡ 16
-  unfolding setsFrom
-  sets-size rows = table-length 16 _
+  maps-size : length (mapsFrom reads boths) ≡ 16
+  unfolding mapsFrom
+  maps-size = table-length 16 _
+
+  ways-size : length (waysFrom boths) ≡ 16
+  unfolding waysFrom
+  ways-size = table-length 16 _
 
   counts-size : (rows : List (List ℕ)) → length (countsFrom rows) ≡ 128
   unfolding countsFrom
   counts-size rows = table-length 128 _
 
-  read-sets : part 65 16 (wordsOf s) ≡ setsFrom reads
-  read-sets = behind 0 16 ∙ part-here (setsFrom reads) _ 16 (sets-size reads)
+  maps-held : part 65 16 (wordsOf s) ≡ mapsFrom reads boths
+  maps-held = behind 0 16 ∙ part-here (mapsFrom reads boths) _ 16 maps-size
 
-  both-sets : part 81 16 (wordsOf s) ≡ setsFrom boths
-  both-sets = behind 16 16 ∙ part-there (setsFrom reads) _ 16 0 16 (sets-size reads) ∙ part-here (setsFrom boths) _ 16 (sets-size boths)
+  ways-held : part 81 16 (wordsOf s) ≡ waysFrom boths
+  ways-held = behind 16 16 ∙ part-there (mapsFrom reads boths) _ 16 0 16 maps-size ∙ part-here (waysFrom boths) _ 16 ways-size
 
   -- the counts, behind both
   counts-behind : (a n : ℕ) → part (97 + a) n (wordsOf s) ≡ part a n (countsFrom reads ++ countsFrom boths)
   counts-behind a n =
       ap (λ (k : ℕ). part k n (wordsOf s)) (let e : 97 + a ≡ 65 + (16 + (16 + a)) = omega arith in e) ∙ behind (16 + (16 + a)) n
-      ∙ part-there (setsFrom reads) _ 16 (16 + a) n (sets-size reads) ∙ part-there (setsFrom boths) _ 16 a n (sets-size boths)
+      ∙ part-there (mapsFrom reads boths) _ 16 (16 + a) n maps-size ∙ part-there (waysFrom boths) _ 16 a n ways-size
 
   read-counts : part 97 128 (wordsOf s) ≡ countsFrom reads
   read-counts = counts-behind 0 128 ∙ part-here (countsFrom reads) _ 128 (counts-size reads)
@@ -169,8 +173,8 @@ module _ (s : State) (i : Invariant s) (items-size : length (s .items) ≡ 64) w
         tables =
             record {
               live = s .tables .live;
-              reads = (ap₂ rowsIn read-sets read-counts ∙ rows-back reads (i .linking .reads)) k;
-              boths = (ap₂ rowsIn both-sets both-counts ∙ rows-back boths (i .linking .boths)) k;
+              reads = reads-back reads boths (i .linking .reads) (i .linking .boths) (wordsOf s) maps-held ways-held read-counts both-counts k;
+              boths = boths-back reads boths (i .linking .reads) (i .linking .boths) (wordsOf s) maps-held ways-held read-counts both-counts k;
               descriptors = s .tables .descriptors;
               names = s .tables .names;
             };

@@ -3,6 +3,7 @@ pub mod Counting
 pub mod Parts
 pub mod BlockLaws
 pub mod Writes
+pub mod Turning
 pub mod Storing
 pub mod Use
 pub mod Spreading

@@ -18,7 +18,7 @@ use Rattle.flow.specs.Links.{linked, Reaches, here, onward, reach}
 use Rattle.flow.proofs.Bools.{or-elim, or-l, or-r, and-l, and-r, and-i, by, no-both, or-false-l, or-false-r, or-false-i, and-false-l}
 use Rattle.flow.proofs.Reach.{link-cases, link-in, link-out, is-reach}
 use Rattle.flow.proofs.Meets.{meets-of, meets-at}
-use Rattle.store.specs.Search.{feedersIn, fedFrom, comesNext, Finds}
+use Rattle.store.specs.Search.{fedFrom, comesNext, Finds}
 
 -- ---- members
 in-l : (x y i : ℕ) → has x i ≡ true → has (x ∪ y) i ≡ true
@@ -108,16 +108,14 @@ module _ (rows : List ℕ) (x left : ℕ) where
     not-in p m = and-false-l _ (has left p) m (sym (own-has p) ∙ ap (λ (z : ℕ). has z p) e ∙ none-has p)
 
     -- none is, and nothing in the set feeds a process
-    pub next-none : length rows ≡ 32 → left < 65536 → x ∩ unionOf rows ≡ 0 → Finds (comesNext rows x) left 64
+    pub next-none : length rows ≡ 16 → left < 65536 → x ∩ unionOf rows ≡ 0 → Finds (comesNext rows x) left 64
     next-none long small calm =
         record { found = λ d. absurd (d refl); none = λ q p m. or-false-i _ _ (not-in p m) (by (fedFrom rows x p) (λ k. meeting p m (meets-at x _ k)) (λ k. k)) }
       where
-        meeting : (p : ℕ) → has left p ≡ true → (i : ℕ) × (has x i ≡ true) × (has (feedersIn rows p) i ≡ true) → fedFrom rows x p ≡ false
+        meeting : (p : ℕ) → has left p ≡ true → (i : ℕ) × (has x i ≡ true) × (has (getD rows p 0) i ≡ true) → fedFrom rows x p ≡ false
         meeting p m w =
             let k : p < 16 = has-below 16 left p small m in
-            in-cases (getD rows p 0) _ (w .0)
-            (λ h. no-common x (unionOf rows) (w .0) calm (w .1) (unionOf-part rows p (w .0) (omega arith) h))
-            (λ h. no-common x (unionOf rows) (w .0) calm (w .1) (unionOf-part rows (16 + p) (w .0) (omega arith) h)) (w .2)
+            no-common x (unionOf rows) (w .0) calm (w .1) (unionOf-part rows p (w .0) (omega arith) (w .2))
 
     -- none is, but one may be fed
     pub next-fed : (p : ℕ) → Finds (fedFrom rows x) left p → Finds (comesNext rows x) left p
@@ -169,8 +167,8 @@ search-start t g u h =
       gone = λ p hp k. no-both (sixteen-has p hp) k;
     })
 
--- f: the sets of all processes, g: those both ways alone, as the tables have them
-module _ (t : Tables) (f g : List ℕ) (ins : (p : ℕ) → p < 16 → feedersOf t p ≡ feedersIn f p) (outs : (p : ℕ) → p < 16 → feeds t p ≡ getD g p 0)
+-- f: what each process maps, g: what it maps both ways, as the tables have it
+module _ (t : Tables) (f g : List ℕ) (ins : (p : ℕ) → p < 16 → feedersOf t p ≡ getD f p 0) (outs : (p : ℕ) → p < 16 → feeds t p ≡ getD g p 0)
     {u seen left : ℕ} (s : Search t g u seen left) where
   -- nothing comes next
   pub search-over : u < 64 → ((p : ℕ) → feeds t p < 2 ^ 64) → (p : ℕ) → p ≡ 64 → Finds (comesNext f seen) left p → seen ≡ reach t u
@@ -183,7 +181,7 @@ module _ (t : Tables) (f g : List ℕ) (ins : (p : ℕ) → p < 16 → feedersOf
       shut v w m =
           link-cases t v w
           (λ p hp q k. by (has left p)
-          (λ l. no-both (meets-of seen (feedersIn f p) v m (rw (ins p hp) at k)) (or-false-r (has seen (containerOf p)) _ (calm p l)))
+          (λ l. no-both (meets-of seen (getD f p 0) v m (rw (ins p hp) at k)) (or-false-r (has seen (containerOf p)) _ (calm p l)))
           (λ l. rw q (s .gone p hp l (containerOf p) (near-own g p hp))))
           (λ p hp q k. by (has left p)
           (λ l. no-both (rw q at m) (or-false-l _ (fedFrom f seen p) (calm p l)))
@@ -200,7 +198,7 @@ module _ (t : Tables) (f g : List ℕ) (ins : (p : ℕ) → p < 16 → feedersOf
     next-leads : Reaches t u (containerOf p)
     next-leads =
         or-elim (has seen (containerOf p)) (fedFrom f seen p) (s .leads (containerOf p))
-        (λ k. let i = meets-at seen (feedersIn f p) k in onward (s .leads (i .0) (i .1)) (link-in t p next-lt (i .0) (ap (λ (z : ℕ). has z (i .0)) (ins p next-lt) ∙ i .2))) (w .1)
+        (λ k. let i = meets-at seen (getD f p 0) k in onward (s .leads (i .0) (i .1)) (link-in t p next-lt (i .0) (ap (λ (z : ℕ). has z (i .0)) (ins p next-lt) ∙ i .2))) (w .1)
 
     pub search-more : getD g p 0 < 2 ^ 64 → (seen′ left′ : ℕ) → seen′ ≡ seen ∪ near g p → left′ ≡ without left (p % 64) → Search t g u seen′ left′
     search-more bound seen′ left′ e e′ =

@@ -1,252 +1,278 @@
 -- Mappings raised, lowered, copied and ended in the words, as the maps have it.
-use Prim.Native.Nat.{ℕ, zero, suc, _+_, _-_, _*_, _/_, _%_, _^_, _≤_, _<_}
+use Prim.Native.Nat.{ℕ, zero, suc, _+_, _-_, _*_, _/_, _%_, _≤_, _<_}
 use native.Mathlib.Omega.{arith}
 use native.Mathlib.Numerals.{add-one}
-use mathlib.Core.Path.{_≡_, refl, sym, ap, subst, _∙_}
-use mathlib.Core.Bool.{true, false, or-comm}
-use mathlib.Core.List.{List}
-use lib.Dec.{leb}
+use native.Mathlib.Decide.{ℕ-discrete}
+use native.Mathlib.Nat.{not-suc-le-zero, le-of-suc-le-suc}
+use mathlib.Core.Path.{_≡_, refl, sym, ap, ap₂, subst, _∙_}
+use mathlib.Core.Bool.{false, _&&_}
+use mathlib.Core.List.{List, [], _∷_}
+use lib.Bits.{and-zero-l}
 use lib.ListN.{length, getD, set, length-set}
 use lib.Seq.{getD-set-same, getD-set-other, paste}
-use Rattle.sets.specs.Sets.{has, only, without, _∪_}
-use Rattle.sets.proofs.Members.{union-has, only-has, without-at, without-other}
-use borrow.Author.Tests.{eq-eqb, ne-eqb, leb-true, le-leb}
-use Rattle.flow.specs.Box.{Sort, Tables, noMappings, rowOf, mappings}
-use Rattle.flow.specs.Calls.{withRow, sortOf, raised, lowered}
-use Rattle.flow.proofs.Bools.{or-r, by, same}
-use Rattle.store.specs.Maps.{part, view, withTables, byteOf, putByte, rowIn, rowsIn}
-use Rattle.store.proofs.Bytes.{byte-lt}
-use Rattle.store.proofs.Counting.{row-counted, row-uncounted, row-none, row-put, row-out, rows-one, row-words}
+use Rattle.sets.specs.Sets.{has, _∩_}
+use Rattle.sets.proofs.Members.{inter-has, none-has}
+use Rattle.flow.specs.Box.{Sort, toRead, bothWays, Tables, noMappings, rowOf, mappings}
+use Rattle.flow.specs.Calls.{withRow, withRows}
+use Rattle.flow.proofs.Mapping.{Sized}
+use Rattle.store.specs.declared.counts.Cells.{Cells}
+use Rattle.store.specs.Maps.{part, view, withTables, byteOf, countBy, rowIn, mapsIn, waysIn, readsAt, bothsAt, readRow, bothRow}
+use Rattle.store.specs.Pairs.{cellsIn, stored, readIn, bothIn, Turned}
 use Rattle.store.proofs.Parts.{part-at, part-length}
-use Rattle.store.proofs.BlockLaws.{laid, laid-none, laid-more, laid-other, laid-at}
-use Rattle.store.proofs.Writes.{part-in, part-before, part-after, setsOf, countsOf, Stored, stored-set, stored-count, stored-more, row-stored, row-viewed}
+use Rattle.store.proofs.BlockLaws.{laid, laid-none, laid-more, laid-long, laid-other, laid-at}
+use Rattle.store.proofs.Counting.{row-at, row-none, row-words, row-changed}
+use Rattle.store.proofs.Writes.{Mine, maps, ways, reads, boths, Outside, outside-none, outside-more, outside-set, rows-stored, rowOfWords, row-viewed, sized-view}
 
--- ---- members of a set with one more
-with-own : (s c : ℕ) → has (s ∪ only c) c ≡ true
-with-own s c = union-has s (only c) c ∙ or-r (has s c) _ (only-has c c ∙ eq-eqb c c refl)
+-- ---- an element set to what it is
+pub set-own : {A : Type 0} (l : List A) (i : ℕ) (d : A) → i < length l → set l i (getD l i d) ≡ l
+set-own [] i d h = absurd (not-suc-le-zero h)
+set-own (x ∷ l) zero d h = refl
+set-own {A} (x ∷ l) (suc i) d h = ap (λ (z : List A). x ∷ z) (set-own l i d (le-of-suc-le-suc h))
 
-with-other : (s c e : ℕ) → (e ≡ c → ⊥) → has (s ∪ only c) e ≡ has s e
-with-other s c e h = union-has s (only c) e ∙ rw (only-has c e, ne-eqb c e (λ q. h (sym q))) (or-comm (has s e) false)
+-- one row of a process set, the other as it is
+module _ (t : Tables) (k : Sized t) (p : ℕ) (hp : p < 16) (l : List ℕ) where
+  pub read-alone : withRows t p l (rowOf t bothWays p) ≡ withRow t toRead p l
+  unfolding withRows withRow rowOf
+  read-alone =
+      λ i. record { live = t .live; reads = set (t .reads) p l; boths = set-own (t .boths) p [] (omega (arith, k .boths)) i; descriptors = t .descriptors; names = t .names }
 
-module _ (x : ℕ) (hx : x < 2) (w d n : List ℕ) (long : length w ≡ 353) (p : ℕ) (hp : p < 16) where
+  pub both-alone : withRows t p (rowOf t toRead p) l ≡ withRow t bothWays p l
+  unfolding withRows withRow rowOf
+  both-alone =
+      λ i. record { live = t .live; reads = set-own (t .reads) p [] (omega (arith, k .reads)) i; boths = set (t .boths) p l; descriptors = t .descriptors; names = t .names }
+
+-- ---- one pair stored
+module _ (w d n : List ℕ) (long : length w ≡ 353) (p : ℕ) (hp : p < 16) (c : ℕ) (hc : c < 64) where
   abbrev tables : Tables
   tables = view w d n .tables
 
-  -- its set, and the words of counts of its sort
-  abbrev set₀ : ℕ
-  set₀ = getD (setsOf x w) p 0
+  abbrev old : Cells
+  old = cellsIn w p c
 
-  abbrev counts₀ : List ℕ
-  counts₀ = countsOf x w
+  -- what it counts
+  pub read-count : mappings tables toRead p c ≡ readIn old c
+  unfolding mappings rowOfWords readRow readIn cellsIn
+  read-count = ap (λ (l : List ℕ). getD l c 0) (row-viewed toRead w d n p hp) ∙ row-at (mapsIn w p) (waysIn w p) w (readsAt p) c hc
 
-  size-sets : length (setsOf x w) ≡ 16
-  size-sets = part-length (65 + 16 * x) 16 w (omega arith)
+  pub both-count : mappings tables bothWays p c ≡ bothIn old c
+  unfolding mappings rowOfWords bothRow bothIn cellsIn
+  both-count =
+      ap (λ (l : List ℕ). getD l c 0) (row-viewed bothWays w d n p hp) ∙ row-at (mapsIn w p ∩ waysIn w p) 0 w (bothsAt p) c hc
+      ∙ rw (inter-has (mapsIn w p) (waysIn w p) c, none-has c) refl
 
-  size-counts : length counts₀ ≡ 128
-  size-counts = part-length (97 + 128 * x) 128 w (omega arith)
+  module _ (y : Cells) (k m : ℕ) (t : Turned old y c k m) where
+    abbrev later : List ℕ
+    later = stored w p c y
 
-  pub row-is : rowOf tables (sortOf x) p ≡ rowIn set₀ counts₀ p
-  row-is = row-viewed x hx w d n p hp
+    w₁ : List ℕ
+    w₁ = set w (65 + p) (y .maps)
 
-  -- one row stored: that of p is l, by its set and the words of counts then; the others are as they were
-  row-made : (w′ sets′ counts′ l : List ℕ) → Stored x w w′ → setsOf x w′ ≡ sets′ → countsOf x w′ ≡ counts′ → rowIn (getD sets′ p 0) counts′ p ≡ l
-      → ((q : ℕ) → q < 16 → (q ≡ p → ⊥) → rowIn (getD sets′ q 0) counts′ q ≡ rowIn (getD (setsOf x w) q 0) counts₀ q)
-      → view w′ d n ≡ withTables (view w d n) (withRow tables (sortOf x) p l)
-  row-made w′ sets′ counts′ l s e f own others =
-      row-stored x hx w w′ d n p l s (rw (e, f) (rows-one (setsOf x w) counts₀ sets′ counts′ p l hp own others))
+    w₂ : List ℕ
+    w₂ = set w₁ (81 + p) (y .ways)
 
-  -- the set alone
-  pub set-made : (v : ℕ) (l : List ℕ) → rowIn v counts₀ p ≡ l → view (set w (65 + 16 * x + p) v) d n ≡ withTables (view w d n) (withRow tables (sortOf x) p l)
-  set-made v l e =
-      row-made (set w (65 + 16 * x + p) v) (set (setsOf x w) p v) counts₀ l (stored-set x hx w p v hp) (part-in (65 + 16 * x) 16 w p v hp)
-      (part-before (97 + 128 * x) 128 w (65 + 16 * x + p) v (omega arith))
-      (rw (getD-set-same (setsOf x w) p v 0 (omega (arith, size-sets))) e)
-      (λ q hq h. ap (λ (z : ℕ). rowIn z counts₀ q) (getD-set-other (setsOf x w) p q v 0 h))
+    w₃ : List ℕ
+    w₃ = set w₂ (readsAt p + c / 8) (y .reads)
 
-  pub row-cleared : view (set w (65 + 16 * x + p) 0) d n ≡ withTables (view w d n) (withRow tables (sortOf x) p noMappings)
-  row-cleared = set-made 0 noMappings (row-none counts₀ p)
+    outside : Outside p w later
+    unfolding stored
+    outside =
+        outside-more (outside-set p w _ (y .maps) maps)
+        (outside-more (outside-set p _ _ (y .ways) ways) (outside-more (outside-set p _ _ (y .reads) (reads (c / 8) (omega arith))) (outside-set p _ _ (y .boths) (boths (c / 8) (omega arith)))))
 
-  module _ (c : ℕ) (hc : c < 64) where
-    abbrev at : ℕ
-    at = 8 * p + c / 8
+    -- the four cells, and every other word of counts
+    size₁ : length w₁ ≡ 353
+    unfolding w₁
+    size₁ = length-set w _ _ ∙ long
 
-    abbrev word : ℕ
-    word = getD counts₀ at 0
+    size₂ : length w₂ ≡ 353
+    unfolding w₂
+    size₂ = length-set w₁ _ _ ∙ size₁
 
-    abbrev byte : ℕ
-    byte = byteOf word (c % 8)
+    size₃ : length w₃ ≡ 353
+    unfolding w₃
+    size₃ = length-set w₂ _ _ ∙ size₂
 
-    -- a word of counts of p stored leaves the rows of the others
-    aside : (y v q : ℕ) → (q ≡ p → ⊥) → rowIn y (set counts₀ at v) q ≡ rowIn y counts₀ q
-    aside y v q h = row-words y counts₀ (set counts₀ at v) q q (λ i l. getD-set-other counts₀ at (8 * q + i) v 0 (λ e. h (omega arith)))
+    maps-is : mapsIn later p ≡ y .maps
+    unfolding stored mapsIn w₁ w₂ w₃
+    maps-is =
+        getD-set-other w₃ (bothsAt p + c / 8) (65 + p) _ 0 (λ e. let z : ⊥ = omega arith in z) ∙ getD-set-other w₂ (readsAt p + c / 8) (65 + p) _ 0 (λ e. let z : ⊥ = omega arith in z)
+        ∙ getD-set-other w₁ (81 + p) (65 + p) _ 0 (λ e. let z : ⊥ = omega arith in z) ∙ getD-set-same w (65 + p) _ 0 (omega arith)
 
-    -- a word alone, and a word and the set
-    pub word-made : (v : ℕ) (l : List ℕ) → rowIn set₀ (set counts₀ at v) p ≡ l → view (set w (97 + 128 * x + at) v) d n ≡ withTables (view w d n) (withRow tables (sortOf x) p l)
-    word-made v l e =
-        row-made (set w (97 + 128 * x + at) v) (setsOf x w) (set counts₀ at v) l (stored-count x hx w at v (omega arith))
-        (part-after (65 + 16 * x) 16 w (97 + 128 * x + at) v (omega arith)) (part-in (97 + 128 * x) 128 w at v (omega arith)) e
-        (λ q hq h. aside (getD (setsOf x w) q 0) v q h)
+    ways-is : waysIn later p ≡ y .ways
+    unfolding stored waysIn w₁ w₂ w₃
+    ways-is =
+        getD-set-other w₃ (bothsAt p + c / 8) (81 + p) _ 0 (λ e. let z : ⊥ = omega arith in z) ∙ getD-set-other w₂ (readsAt p + c / 8) (81 + p) _ 0 (λ e. let z : ⊥ = omega arith in z)
+        ∙ getD-set-same w₁ (81 + p) _ 0 (omega (arith, size₁))
 
-    pub both-made : (v y : ℕ) (l : List ℕ) → rowIn y (set counts₀ at v) p ≡ l
-        → view (set (set w (97 + 128 * x + at) v) (65 + 16 * x + p) y) d n ≡ withTables (view w d n) (withRow tables (sortOf x) p l)
-    both-made v y l e =
-        row-made _ (set (setsOf x w) p y) (set counts₀ at v) l (stored-more (stored-count x hx w at v (omega arith)) (stored-set x hx (set w (97 + 128 * x + at) v) p y hp))
-        (part-in (65 + 16 * x) 16 (set w (97 + 128 * x + at) v) p y hp ∙ ap (λ (z : List ℕ). set z p y) (part-after (65 + 16 * x) 16 w (97 + 128 * x + at) v (omega arith)))
-        (part-before (97 + 128 * x) 128 (set w (97 + 128 * x + at) v) (65 + 16 * x + p) y (omega arith) ∙ part-in (97 + 128 * x) 128 w at v (omega arith))
-        (rw (getD-set-same (setsOf x w) p y 0 (omega (arith, size-sets))) e)
-        (λ q hq h. ap (λ (z : ℕ). rowIn z (set counts₀ at v) q) (getD-set-other (setsOf x w) p q y 0 h) ∙ aside (getD (setsOf x w) q 0) v q h)
+    read-word : getD later (readsAt p + c / 8) 0 ≡ y .reads
+    unfolding stored w₁ w₂ w₃
+    read-word =
+        getD-set-other w₃ (bothsAt p + c / 8) (readsAt p + c / 8) _ 0 (λ e. let z : ⊥ = omega arith in z) ∙ getD-set-same w₂ (readsAt p + c / 8) _ 0 (omega (arith, size₂))
 
-    -- the count
-    pub count-is : has set₀ c ≡ true → mappings tables (sortOf x) p c ≡ suc byte
-    unfolding mappings
-    count-is h = ap (λ (l : List ℕ). getD l c 0) row-is ∙ row-counted set₀ counts₀ p c hc h
+    both-word : getD later (bothsAt p + c / 8) 0 ≡ y .boths
+    unfolding stored w₁ w₂ w₃
+    both-word = getD-set-same w₃ (bothsAt p + c / 8) _ 0 (omega (arith, size₃))
 
-    pub count-none : has set₀ c ≡ false → mappings tables (sortOf x) p c ≡ 0
-    unfolding mappings
-    count-none h = ap (λ (l : List ℕ). getD l c 0) row-is ∙ row-uncounted set₀ counts₀ p c hc h
+    elsewhere : (j : ℕ) → 97 ≤ j → (j ≡ readsAt p + c / 8 → ⊥) → (j ≡ bothsAt p + c / 8 → ⊥) → getD later j 0 ≡ getD w j 0
+    unfolding stored w₁ w₂ w₃
+    elsewhere j h a b =
+        getD-set-other w₃ (bothsAt p + c / 8) j _ 0 b ∙ getD-set-other w₂ (readsAt p + c / 8) j _ 0 a
+        ∙ getD-set-other w₁ (81 + p) j _ 0 (λ e. let z : ⊥ = omega arith in z) ∙ getD-set-other w (65 + p) j _ 0 (λ e. let z : ⊥ = omega arith in z)
 
-    -- one more, where there was one and where there was none; one less, where others are left and where none is
-    pub raised-more : has set₀ c ≡ true → byte < 255 → view (set w (97 + 128 * x + at) (putByte word (c % 8) (suc byte))) d n ≡ withTables (view w d n) (raised tables (sortOf x) p c)
-    unfolding raised
-    raised-more h l =
-        word-made _ _ (rw (row-is, count-is h) (row-put set₀ counts₀ p c size-counts hp hc (suc byte) (omega arith) set₀ h (λ e he q. refl)))
+    -- bytes of another container
+    read-byte : (e : ℕ) → e < 64 → (e ≡ c → ⊥) → byteOf (getD later (readsAt p + e / 8) 0) (e % 8) ≡ byteOf (getD w (readsAt p + e / 8) 0) (e % 8)
+    unfolding cellsIn
+    read-byte e he f = go (ℕ-discrete (e / 8) (c / 8))
+      where
+        go : Dec (e / 8 ≡ c / 8) → byteOf (getD later (readsAt p + e / 8) 0) (e % 8) ≡ byteOf (getD w (readsAt p + e / 8) 0) (e % 8)
+        go (yes q) = rw q (ap (λ (z : ℕ). byteOf z (e % 8)) read-word ∙ t .reads (e % 8) (λ r. f (omega arith)))
+        go (no q) = ap (λ (z : ℕ). byteOf z (e % 8)) (elsewhere (readsAt p + e / 8) (omega arith) (λ r. q (omega arith)) (λ r. let z : ⊥ = omega arith in z))
 
-    pub raised-first : has set₀ c ≡ false
-        → view (set (set w (97 + 128 * x + at) (putByte word (c % 8) 0)) (65 + 16 * x + p) (set₀ ∪ only c)) d n ≡ withTables (view w d n) (raised tables (sortOf x) p c)
-    unfolding raised
-    raised-first h =
-        both-made _ _ _ (rw (row-is, count-none h) (row-put set₀ counts₀ p c size-counts hp hc 0 (omega arith) (set₀ ∪ only c) (with-own set₀ c) (λ e he q. with-other set₀ c e q)))
+    both-byte : (e : ℕ) → e < 64 → (e ≡ c → ⊥) → byteOf (getD later (bothsAt p + e / 8) 0) (e % 8) ≡ byteOf (getD w (bothsAt p + e / 8) 0) (e % 8)
+    unfolding cellsIn
+    both-byte e he f = go (ℕ-discrete (e / 8) (c / 8))
+      where
+        go : Dec (e / 8 ≡ c / 8) → byteOf (getD later (bothsAt p + e / 8) 0) (e % 8) ≡ byteOf (getD w (bothsAt p + e / 8) 0) (e % 8)
+        go (yes q) = rw q (ap (λ (z : ℕ). byteOf z (e % 8)) both-word ∙ t .boths (e % 8) (λ r. f (omega arith)))
+        go (no q) = ap (λ (z : ℕ). byteOf z (e % 8)) (elsewhere (bothsAt p + e / 8) (omega arith) (λ r. let z : ⊥ = omega arith in z) (λ r. q (omega arith)))
 
-    pub lowered-more : has set₀ c ≡ true → 0 < byte → view (set w (97 + 128 * x + at) (putByte word (c % 8) (byte - 1))) d n ≡ withTables (view w d n) (lowered tables (sortOf x) p c)
-    unfolding lowered
-    lowered-more h l =
-        let b : byte < 256 = byte-lt word (c % 8) in
-        let e : suc (byte - 1) ≡ byte = omega arith in
-        word-made _ _ (rw (row-is, count-is h) (row-put set₀ counts₀ p c size-counts hp hc (byte - 1) (omega arith) set₀ h (λ e he q. refl) ∙ ap (set (rowIn set₀ counts₀ p) c) (e ∙ omega arith)))
+    read-row : readRow later p ≡ set (rowOf tables toRead p) c k
+    unfolding readRow rowOfWords readIn cellsIn
+    read-row =
+        rw (maps-is, ways-is, row-viewed toRead w d n p hp)
+        (row-changed (mapsIn w p) (waysIn w p) (y .maps) (y .ways) w later (readsAt p) c hc (t .maps) (t .ways) read-byte
+        ∙ ap (set (rowIn (mapsIn w p) (waysIn w p) w (readsAt p)) c) (ap (λ (z : ℕ). countBy (has (y .maps) c) (has (y .ways) c) (byteOf z (c % 8))) read-word ∙ t .read))
 
-    pub lowered-last : has set₀ c ≡ true → byte ≡ 0 → view (set w (65 + 16 * x + p) (without set₀ c)) d n ≡ withTables (view w d n) (lowered tables (sortOf x) p c)
-    unfolding lowered
-    lowered-last h l =
-        set-made _ _
-        (rw (row-is, count-is h, l) (row-out set₀ counts₀ p c size-counts hp hc (without set₀ c) (without-at set₀ c c hc refl) (λ e he q. without-other set₀ c e he q)))
+    both-row : bothRow later p ≡ set (rowOf tables bothWays p) c m
+    unfolding bothRow rowOfWords bothIn cellsIn
+    both-row =
+        rw (maps-is, ways-is, row-viewed bothWays w d n p hp)
+        (row-changed (mapsIn w p ∩ waysIn w p) 0 (y .maps ∩ y .ways) 0 w later (bothsAt p) c hc
+        (λ e he f. inter-has (y .maps) (y .ways) e ∙ ap₂ _&&_ (t .maps e he f) (t .ways e he f) ∙ sym (inter-has (mapsIn w p) (waysIn w p) e)) (λ e he f. refl) both-byte
+        ∙ ap (set (rowIn (mapsIn w p ∩ waysIn w p) 0 w (bothsAt p)) c) (rw (inter-has (y .maps) (y .ways) c, none-has c) (ap (λ (z : ℕ). countBy (has (y .maps) c && has (y .ways) c) false (byteOf z (c % 8))) both-word ∙ t .both)))
 
-    -- ---- the same by the words as they are read
-    abbrev own : ℕ
-    own = getD w (65 + 16 * x + p) 0
+    pub turned-view : view later d n ≡ withTables (view w d n) (withRows tables p (set (rowOf tables toRead p) c k) (set (rowOf tables bothWays p) c m))
+    turned-view = rows-stored w later d n p hp long outside _ _ read-row both-row
 
-    abbrev cell : ℕ
-    cell = getD w (97 + 128 * x + at) 0
+-- ---- mappings ended
+none-inter : (v : ℕ) → 0 ∩ v ≡ 0
+unfolding _∩_
+none-inter v = and-zero-l v
 
-    own-is : own ≡ set₀
-    own-is = part-at (65 + 16 * x) 16 w p hp
+pub read-none : (w : List ℕ) (p : ℕ) → getD w (65 + p) 0 ≡ 0 → readRow w p ≡ noMappings
+unfolding readRow mapsIn
+read-none w p e = rw e (row-none (waysIn w p) w (readsAt p))
 
-    cell-is : cell ≡ word
-    cell-is = part-at (97 + 128 * x) 128 w at (omega arith)
+pub both-none : (w : List ℕ) (p : ℕ) → getD w (65 + p) 0 ≡ 0 → bothRow w p ≡ noMappings
+unfolding bothRow mapsIn
+both-none w p e = rw (e, none-inter (waysIn w p)) (row-none 0 w (bothsAt p))
 
-    pub raise-more : has own c ≡ true → byteOf cell (c % 8) < 255
-        → view (set w (97 + 128 * x + at) (putByte cell (c % 8) (suc (byteOf cell (c % 8))))) d n ≡ withTables (view w d n) (raised tables (sortOf x) p c)
-    raise-more h l = rw cell-is (raised-more (rw own-is at h) (rw cell-is at l))
+pub rows-cleared : (w d n : List ℕ) → length w ≡ 353 → (p : ℕ) → p < 16 → view (set w (65 + p) 0) d n ≡ withTables (view w d n) (withRows (view w d n .tables) p noMappings noMappings)
+rows-cleared w d n long p hp = rows-stored w (set w (65 + p) 0) d n p hp long (outside-set p w (65 + p) 0 maps) noMappings noMappings read both
+  where
+    none : getD (set w (65 + p) 0) (65 + p) 0 ≡ 0
+    none = getD-set-same w (65 + p) 0 0 (omega arith)
 
-    pub raise-first : has own c ≡ false
-        → view (set (set w (97 + 128 * x + at) (putByte cell (c % 8) 0)) (65 + 16 * x + p) (own ∪ only c)) d n ≡ withTables (view w d n) (raised tables (sortOf x) p c)
-    raise-first h = rw (cell-is, own-is) (raised-first (rw own-is at h))
+    read : readRow (set w (65 + p) 0) p ≡ noMappings
+    read = read-none (set w (65 + p) 0) p none
 
-    pub lower-more : has own c ≡ true → 0 < byteOf cell (c % 8)
-        → view (set w (97 + 128 * x + at) (putByte cell (c % 8) (byteOf cell (c % 8) - 1))) d n ≡ withTables (view w d n) (lowered tables (sortOf x) p c)
-    lower-more h l = rw cell-is (lowered-more (rw own-is at h) (rw cell-is at l))
+    both : bothRow (set w (65 + p) 0) p ≡ noMappings
+    both = both-none (set w (65 + p) 0) p none
 
-    pub lower-last : has own c ≡ true → byteOf cell (c % 8) ≡ 0 → view (set w (65 + 16 * x + p) (without own c)) d n ≡ withTables (view w d n) (lowered tables (sortOf x) p c)
-    lower-last h l = rw own-is (lowered-last (rw own-is at h) (rw cell-is at l))
+-- ---- the rows of one process copied to another
+module _ (w d n : List ℕ) (long : length w ≡ 353) (p q : ℕ) (hp : p < 16) (hq : q < 16) where
+  abbrev from : Tables
+  from = view w d n .tables
 
-    -- a count above 0 is one more than its byte, and its container is in the set
-    pub owned : 0 < mappings tables (sortOf x) p c → has own c ≡ true
-    owned h = by (has set₀ c) (λ e. rw own-is e) (λ e. absurd (let z : ⊥ = omega (arith, count-none e) in z))
+  abbrev sets : List ℕ
+  sets = set (set w (65 + q) (getD w (65 + p) 0)) (81 + q) (getD w (81 + p) 0)
 
-    pub counted : has own c ≡ true → mappings tables (sortOf x) p c ≡ suc (byteOf cell (c % 8))
-    counted h = count-is (rw own-is at h) ∙ ap (λ (z : ℕ). suc (byteOf z (c % 8))) (sym cell-is)
+  abbrev given : List ℕ → Type 0
+  given w′ = view w′ d n ≡ withTables (view w d n) (withRows from q (rowOf from toRead p) (rowOf from bothWays p))
 
-    pub full-is : has own c ≡ true → leb 254 (byteOf cell (c % 8)) ≡ leb 255 (mappings tables (sortOf x) p c)
-    full-is h =
-        let e : mappings tables (sortOf x) p c ≡ suc (byteOf cell (c % 8)) = counted h in
-        same (leb 254 (byteOf cell (c % 8))) (leb 255 (mappings tables (sortOf x) p c))
-        (λ l. le-leb 255 (mappings tables (sortOf x) p c) (omega (arith, leb-true 254 (byteOf cell (c % 8)) l)))
-        (λ l. le-leb 254 (byteOf cell (c % 8)) (omega (arith, leb-true 255 (mappings tables (sortOf x) p c) l)))
+  size-sets : length sets ≡ 353
+  size-sets = length-set (set w (65 + q) _) (81 + q) _ ∙ length-set w (65 + q) _ ∙ long
 
--- ---- the row of one process copied to another
-module _ (x : ℕ) (hx : x < 2) (w d n : List ℕ) (long : length w ≡ 353) (p q : ℕ) (hp : p < 16) (hq : q < 16) where
-  abbrev given : ℕ
-  given = getD w (65 + 16 * x + p) 0
+  outside-sets : Outside q w sets
+  outside-sets = outside-more (outside-set q w (65 + q) _ maps) (outside-set q _ (81 + q) _ ways)
 
-  given-is : given ≡ getD (setsOf x w) p 0
-  given-is = part-at (65 + 16 * x) 16 w p hp
+  maps-copied : getD sets (65 + q) 0 ≡ getD w (65 + p) 0
+  maps-copied = getD-set-other (set w (65 + q) _) (81 + q) (65 + q) _ 0 (λ e. let z : ⊥ = omega arith in z) ∙ getD-set-same w (65 + q) _ 0 (omega arith)
 
-  -- where there is none
-  pub row-copied-none : given ≡ 0 → view (set w (65 + 16 * x + q) given) d n ≡ withTables (view w d n) (withRow (view w d n .tables) (sortOf x) q (rowOf (view w d n .tables) (sortOf x) p))
-  row-copied-none e =
-      set-made x hx w d n long q hq given _
-      (rw (row-is x hx w d n long p hp, ← given-is, e) (row-none (countsOf x w) q ∙ sym (row-none (countsOf x w) p)))
+  ways-copied : getD sets (81 + q) 0 ≡ getD w (81 + p) 0
+  ways-copied = getD-set-same (set w (65 + q) _) (81 + q) _ 0 (let e : length (set w (65 + q) (getD w (65 + p) 0)) ≡ 353 = length-set w (65 + q) _ ∙ long in omega arith)
 
-  -- the set, then the eight words of counts
+  -- where there are none
+  pub copied-none : getD w (65 + p) 0 ≡ 0 → given sets
+  unfolding rowOfWords
+  copied-none e =
+      rows-stored w sets d n q hq long outside-sets _ _
+      (read-none sets q (maps-copied ∙ e) ∙ sym (row-viewed toRead w d n p hp ∙ read-none w p e))
+      (both-none sets q (maps-copied ∙ e) ∙ sym (row-viewed bothWays w d n p hp ∙ both-none w p e))
+
+  -- eight words, then eight more
+  module _ (l : List ℕ) (size : length l ≡ 353) (source at : ℕ) (hs : source < 346) (ha : at < 346) (mine : (i : ℕ) → i < 8 → Mine q (at + i)) where
+    abbrev block : List ℕ
+    block = part source 8 l
+
+    eight : length block ≡ 8
+    eight = part-length source 8 l (omega arith)
+
+    outside-laid : (k : ℕ) → k ≤ 8 → Outside q l (laid l at block k)
+    outside-laid zero h = subst (λ (z : List ℕ). Outside q l z) (laid-none l at block) (outside-none q l)
+    outside-laid (suc k) h =
+        subst (λ (z : List ℕ). Outside q l z) (laid-more l at block k _ (omega arith) (omega (arith, eight)) refl ∙ ap (laid l at block) (add-one k))
+        (outside-more (outside-laid k (omega arith)) (outside-set q (laid l at block k) (at + k) _ (mine k (omega arith))))
+
+    pub pasted : Outside q l (paste l at block 8)
+    unfolding laid
+    pasted = outside-laid 8 (omega arith)
+
+    pub pasted-at : (i : ℕ) → i < 8 → getD (paste l at block 8) (at + i) 0 ≡ getD l (source + i) 0
+    unfolding laid
+    pasted-at i h = laid-at l at block 8 i (omega arith) (omega (arith, eight)) h ∙ sym (part-at source 8 l i h)
+
+    pub pasted-other : (j : ℕ) → ((i : ℕ) → i < 8 → j ≡ at + i → ⊥) → getD (paste l at block 8) j 0 ≡ getD l j 0
+    unfolding laid
+    pasted-other j f = laid-other l at block 8 j (omega arith) (omega (arith, eight)) f
+
   abbrev first : List ℕ
-  first = set w (65 + 16 * x + q) given
+  first = paste sets (readsAt q) (part (readsAt p) 8 sets) 8
 
-  abbrev source : ℕ
-  source = 97 + 8 * (16 * x + p)
+  abbrev second : List ℕ
+  second = paste first (bothsAt q) (part (bothsAt p) 8 first) 8
 
-  abbrev target : ℕ
-  target = 97 + 8 * (16 * x + q)
+  outside-first : Outside q sets first
+  outside-first = pasted sets size-sets (readsAt p) (readsAt q) (omega arith) (omega arith) reads
 
-  abbrev block : List ℕ
-  block = part source 8 first
+  pub size-first : length first ≡ 353
+  size-first = outside-first .size ∙ size-sets
 
-  abbrev later : ℕ → List ℕ
-  later k = laid first target block k
+  outside-second : Outside q first second
+  outside-second = pasted first size-first (bothsAt p) (bothsAt q) (omega arith) (omega arith) boths
 
-  size : length first ≡ 353
-  size = length-set w (65 + 16 * x + q) given ∙ long
+  -- a word behind the sets is as it was in `sets`
+  behind : (j : ℕ) → 97 ≤ j → getD sets j 0 ≡ getD w j 0
+  behind j h = getD-set-other (set w (65 + q) _) (81 + q) j _ 0 (λ e. let z : ⊥ = omega arith in z) ∙ getD-set-other w (65 + q) j _ 0 (λ e. let z : ⊥ = omega arith in z)
 
-  eight : length block ≡ 8
-  eight = part-length source 8 first (omega (arith, size))
+  sets-last : (j : ℕ) → j < 97 → getD second j 0 ≡ getD sets j 0
+  sets-last j h =
+      pasted-other first size-first (bothsAt p) (bothsAt q) (omega arith) (omega arith) boths j (λ i l e. let z : ⊥ = omega arith in z)
+      ∙ pasted-other sets size-sets (readsAt p) (readsAt q) (omega arith) (omega arith) reads j (λ i l e. let z : ⊥ = omega arith in z)
 
-  stored-first : Stored x w first
-  stored-first = stored-set x hx w q given hq
+  reads-last : (i : ℕ) → i < 8 → getD second (readsAt q + i) 0 ≡ getD w (readsAt p + i) 0
+  reads-last i h =
+      pasted-other first size-first (bothsAt p) (bothsAt q) (omega arith) (omega arith) boths (readsAt q + i) (λ k l e. let z : ⊥ = omega arith in z)
+      ∙ pasted-at sets size-sets (readsAt p) (readsAt q) (omega arith) (omega arith) reads i h ∙ behind (readsAt p + i) (omega arith)
 
-  stored-later : (k : ℕ) → k ≤ 8 → Stored x w (later k)
-  stored-later zero h = subst (λ (z : List ℕ). Stored x w z) (laid-none first target block) stored-first
-  stored-later (suc k) h =
-      let e : target + k ≡ 97 + 128 * x + (8 * q + k) = omega arith in
-      subst (λ (z : List ℕ). Stored x w z) (laid-more first target block k _ (omega (arith, size)) (omega (arith, eight)) refl ∙ ap later (add-one k))
-      (stored-more (stored-later k (omega arith)) (subst (λ (z : ℕ). Stored x (later k) (set (later k) z (getD block k 0))) (sym e) (stored-count x hx (later k) (8 * q + k) _ (omega arith))))
+  boths-last : (i : ℕ) → i < 8 → getD second (bothsAt q + i) 0 ≡ getD w (bothsAt p + i) 0
+  boths-last i h =
+      pasted-at first size-first (bothsAt p) (bothsAt q) (omega arith) (omega arith) boths i h
+      ∙ pasted-other sets size-sets (readsAt p) (readsAt q) (omega arith) (omega arith) reads (bothsAt p + i) (λ k l e. let z : ⊥ = omega arith in z) ∙ behind (bothsAt p + i) (omega arith)
 
-  -- an element behind the sets, before and after
-  behind : (i : ℕ) → getD first (97 + 128 * x + i) 0 ≡ getD w (97 + 128 * x + i) 0
-  behind i = getD-set-other w (65 + 16 * x + q) (97 + 128 * x + i) given 0 (λ e. let z : ⊥ = omega arith in z)
-
-  copied-at : (i : ℕ) → i < 8 → getD (countsOf x (later 8)) (8 * q + i) 0 ≡ getD (countsOf x w) (8 * p + i) 0
-  copied-at i h =
-      sym (part-at (97 + 128 * x) 128 (later 8) (8 * q + i) (omega arith)) ∙ ap (λ (z : ℕ). getD (later 8) z 0) (let e : 97 + 128 * x + (8 * q + i) ≡ target + i = omega arith in e)
-      ∙ laid-at first target block 8 i (omega (arith, size)) (omega (arith, eight)) h ∙ sym (part-at source 8 first i h)
-      ∙ ap (λ (z : ℕ). getD first z 0) (let e : source + i ≡ 97 + 128 * x + (8 * p + i) = omega arith in e) ∙ behind (8 * p + i) ∙ part-at (97 + 128 * x) 128 w (8 * p + i) (omega arith)
-
-  aside-at : (r i : ℕ) → r < 16 → (r ≡ q → ⊥) → i < 8 → getD (countsOf x (later 8)) (8 * r + i) 0 ≡ getD (countsOf x w) (8 * r + i) 0
-  aside-at r i hr e h =
-      sym (part-at (97 + 128 * x) 128 (later 8) (8 * r + i) (omega arith))
-      ∙ laid-other first target block 8 (97 + 128 * x + (8 * r + i)) (omega (arith, size)) (omega (arith, eight)) (λ j l f. e (omega arith))
-      ∙ behind (8 * r + i) ∙ part-at (97 + 128 * x) 128 w (8 * r + i) (omega arith)
-
-  -- the sets are those of the first store
-  sets-later : (k : ℕ) → k ≤ 8 → setsOf x (later k) ≡ setsOf x first
-  sets-later zero h = ap (setsOf x) (sym (laid-none first target block))
-  sets-later (suc k) h =
-      ap (setsOf x) (sym (laid-more first target block k _ (omega (arith, size)) (omega (arith, eight)) refl ∙ ap later (add-one k)))
-      ∙ part-after (65 + 16 * x) 16 (later k) (target + k) _ (omega arith) ∙ sets-later k (omega arith)
-
-  pub row-copied : view (paste first target block 8) d n ≡ withTables (view w d n) (withRow (view w d n .tables) (sortOf x) q (rowOf (view w d n .tables) (sortOf x) p))
-  unfolding laid
-  row-copied =
-      row-made x hx w d n long q hq (later 8) (set (setsOf x w) q given) (countsOf x (later 8)) _ (stored-later 8 (omega arith))
-      (sets-later 8 (omega arith) ∙ part-in (65 + 16 * x) 16 w q given hq) refl
-      (rw (getD-set-same (setsOf x w) q given 0 (omega (arith, size-sets x hx w d n long q hq)), row-is x hx w d n long p hp, ← given-is)
-      (row-words given (countsOf x w) (countsOf x (later 8)) q p copied-at))
-      (λ r hr e. ap (λ (z : ℕ). rowIn z (countsOf x (later 8)) r) (getD-set-other (setsOf x w) q r given 0 e)
-      ∙ row-words (getD (setsOf x w) r 0) (countsOf x w) (countsOf x (later 8)) r r (λ i h. aside-at r i hr e h))
+  pub copied-all : given second
+  unfolding rowOfWords readRow bothRow mapsIn waysIn
+  copied-all =
+      rows-stored w second d n q hq long (outside-more outside-sets (outside-more outside-first outside-second)) _ _
+      (rw (sets-last (65 + q) (omega arith), maps-copied, sets-last (81 + q) (omega arith), ways-copied, row-viewed toRead w d n p hp) (row-words _ _ w second (readsAt p) (readsAt q) reads-last))
+      (rw (sets-last (65 + q) (omega arith), maps-copied, sets-last (81 + q) (omega arith), ways-copied, row-viewed bothWays w d n p hp) (row-words _ 0 w second (bothsAt p) (bothsAt q) boths-last))

@@ -3,30 +3,30 @@ use Prim.Native.Nat.{ℕ, _+_, _-_, _*_, _≤_, _<_, _^_}
 use native.Mathlib.Omega.{arith}
 use native.Mathlib.Decide.{decLt}
 use mathlib.Core.Path.{_≡_, refl, sym, ap, ap₂, subst, _∙_}
-use mathlib.Core.Bool.{true}
 use mathlib.Core.List.{List, [], _++_}
 use lib.Dec.{eqb}
-use lib.ListN.{length, getD, set, replicate, take, drop, drop-of-length-le}
-use lib.Seq.{getD-take, length-take-le, drop-drop, drop-append-seam, take-append-seam}
+use lib.ListN.{length, getD, set, replicate, take, drop, drop-of-length-le, length-replicate, getD-replicate}
+use lib.Seq.{getD-take, getD-drop, length-take-le, drop-append-seam, take-append-seam, ext-getD}
 use borrow.Author.Tests.{ne-eqb}
 use borrow.Rule.Slice.PartMut.{putMid, postOf, take-put, drop-put}
-use Rattle.sets.specs.Sets.{has, only, _∪_}
-use Rattle.sets.proofs.Members.{none-has, has-lt}
-use Rattle.flow.specs.Box.{slot, closed, noTables, Sort, toRead, bothWays, Tables, rowOf, mappedIn, feedersOf, feeds}
+use Rattle.sets.specs.Sets.{only, _∪_, _∩_}
+use Rattle.sets.proofs.Members.{inter-lt}
+use Rattle.sets.proofs.Unions.{none-union}
+use Rattle.flow.specs.Lists.{table}
+use Rattle.flow.specs.Box.{slot, closed, noMappings, noTables, toRead, bothWays, Tables, rowOf, mappedIn, feedersOf, feeds}
 use Rattle.flow.specs.Links.{reach, given}
 use Rattle.flow.specs.Calls.{sortOf, block}
-use Rattle.flow.proofs.Bools.{no-both, chosen-r}
+use Rattle.flow.proofs.Bools.{chosen-r}
 use Rattle.flow.proofs.Counts.{zeros}
-use Rattle.flow.proofs.Mapping.{Sized}
-use Rattle.flow.proofs.TableLaws.{table-length}
-use Rattle.store.specs.Maps.{part, view, rowsIn, withItems, cleared, itemsBy}
-use Rattle.store.specs.Search.{feedersIn}
+use Rattle.flow.proofs.TableLaws.{table-at, table-length}
+use Rattle.store.specs.Maps.{part, view, mapsIn, waysIn, readRow, bothRow, withItems, cleared, itemsBy}
 use Rattle.store.specs.declared.Plan.{Plan}
 use Rattle.store.proofs.Parts.{part-at, part-past, part-length}
 use Rattle.store.proofs.Worklist.{cleared-one, cleared-none}
+use Rattle.store.proofs.Counting.{feeder-set, fed-set}
+use Rattle.store.proofs.Writes.{mine-behind, read-same, both-same, rows-same, rowOfWords, row-viewed, row-past}
+use Rattle.store.proofs.Storing.{read-none, both-none}
 use Rattle.store.proofs.Spreading.{reach-same}
-use Rattle.store.proofs.Counting.{rows-length, row-lt, row-set, rows-past, rows-none}
-use Rattle.store.proofs.Writes.{setsOf, countsOf, row-viewed}
 
 pub row-bound : (w : List ℕ) → ((p : ℕ) → getD w p 0 < 2 ^ 64) → (a n q : ℕ) → getD (part a n w) q 0 < 2 ^ 64
 row-bound w h a n q = go (decLt q n)
@@ -35,55 +35,29 @@ row-bound w h a n q = go (decLt q n)
     go (yes k) = subst (λ (x : ℕ). x < 2 ^ 64) (part-at a n w q k) (h _)
     go (no k) = subst (λ (x : ℕ). x < 2 ^ 64) (part-past a n w q (omega arith)) (omega arith)
 
--- a row for each process, of either sort
-pub sized-view : (w d n : List ℕ) → Sized (view w d n .tables)
-unfolding view
-sized-view w d n = record { reads = rows-length (part 65 16 w) (part 97 128 w); boths = rows-length (part 81 16 w) (part 225 128 w) }
-
 -- a sort that is not 0
 pub sort-both : (x : ℕ) → (x ≡ 0 → ⊥) → sortOf x ≡ bothWays
 unfolding sortOf
 sort-both x h = chosen-r (eqb x 0) toRead bothWays (ne-eqb x 0 h)
 
--- a set of the words is that of the row
-set-viewed : (x : ℕ) → x < 2 → (w d n : List ℕ) (p : ℕ) → p < 16 → getD (setsOf x w) p 0 < 2 ^ 64 → mappedIn (rowOf (view w d n .tables) (sortOf x) p) ≡ getD (setsOf x w) p 0
-set-viewed x hx w d n p hp b = ap mappedIn (row-viewed x hx w d n p hp) ∙ row-set _ (countsOf x w) p b
-
-pub rows-empty : (x : Sort) (w d n : List ℕ) (p : ℕ) → 16 ≤ p → mappedIn (rowOf (view w d n .tables) x p) ≡ 0
-unfolding rowOf view mappedIn
-rows-empty toRead w d n p h = ap mappedIn (rows-past (part 65 16 w) (part 97 128 w) p h)
-rows-empty bothWays w d n p h = ap mappedIn (rows-past (part 81 16 w) (part 225 128 w) p h)
-
-pub read-set : (w d n : List ℕ) (p : ℕ) → getD (part 65 16 w) p 0 < 2 ^ 64 → mappedIn (rowOf (view w d n .tables) toRead p) ≡ getD (part 65 16 w) p 0
-unfolding sortOf
-read-set w d n p b = go (decLt p 16)
-  where
-    go : Dec (p < 16) → mappedIn (rowOf (view w d n .tables) toRead p) ≡ getD (part 65 16 w) p 0
-    go (yes h) = set-viewed 0 (omega arith) w d n p h b
-    go (no h) = rows-empty toRead w d n p (omega arith) ∙ part-past 65 16 w p (omega arith)
-
-pub both-set : (w d n : List ℕ) (p : ℕ) → getD (part 81 16 w) p 0 < 2 ^ 64 → mappedIn (rowOf (view w d n .tables) bothWays p) ≡ getD (part 81 16 w) p 0
-unfolding sortOf
-both-set w d n p b = go (decLt p 16)
-  where
-    go : Dec (p < 16) → mappedIn (rowOf (view w d n .tables) bothWays p) ≡ getD (part 81 16 w) p 0
-    go (yes h) = set-viewed 1 (omega arith) w d n p h b
-    go (no h) = rows-empty bothWays w d n p (omega arith) ∙ part-past 81 16 w p (omega arith)
-
--- what a row counts is a container, of one of the processes
-pub row-range : (x : Sort) (w d n : List ℕ) (p c : ℕ) → has (mappedIn (rowOf (view w d n .tables) x p)) c ≡ true → (p < 16) × (c < 64)
-unfolding sortOf
-row-range x w d n p c h = go (decLt p 16)
-  where
-    row : (x : Sort) → p < 16 → mappedIn (rowOf (view w d n .tables) x p) < 2 ^ 64
-    row toRead l = subst (λ (z : List ℕ). mappedIn z < 2 ^ 64) (sym (row-viewed 0 (omega arith) w d n p l)) (row-lt (getD (setsOf 0 w) p 0) (countsOf 0 w) p)
-    row bothWays l = subst (λ (z : List ℕ). mappedIn z < 2 ^ 64) (sym (row-viewed 1 (omega arith) w d n p l)) (row-lt (getD (setsOf 1 w) p 0) (countsOf 1 w) p)
-
-    go : Dec (p < 16) → (p < 16) × (c < 64)
-    go (yes l) = (l, has-lt _ c (row x l) h)
-    go (no l) = no-both h (ap (λ (z : ℕ). has z c) (rows-empty x w d n p (omega arith)) ∙ none-has c)
-
 -- ---- the links of the words, whatever the other tables are
+module _ (w d n : List ℕ) (p : ℕ) where
+  pub feeders-is : p < 16 → mapsIn w p < 2 ^ 64 → feedersOf (view w d n .tables) p ≡ mapsIn w p
+  unfolding feedersOf rowOfWords
+  feeders-is h b = ap₂ (λ (l k : List ℕ). mappedIn l ∪ mappedIn k) (row-viewed toRead w d n p h) (row-viewed bothWays w d n p h) ∙ feeder-set w p b
+
+  pub feeds-is : p < 16 → mapsIn w p < 2 ^ 64 → feeds (view w d n .tables) p ≡ mapsIn w p ∩ waysIn w p
+  unfolding feeds rowOfWords
+  feeds-is h b = ap mappedIn (row-viewed bothWays w d n p h) ∙ fed-set w p b
+
+  pub feeders-past : 16 ≤ p → feedersOf (view w d n .tables) p ≡ 0
+  unfolding feedersOf mappedIn
+  feeders-past h = ap₂ (λ (l k : List ℕ). mappedIn l ∪ mappedIn k) (row-past toRead w d n p h) (row-past bothWays w d n p h) ∙ none-union 0
+
+  feeds-past : 16 ≤ p → feeds (view w d n .tables) p ≡ 0
+  unfolding feeds mappedIn
+  feeds-past h = ap mappedIn (row-past bothWays w d n p h)
+
 abbrev pub linksOf : List ℕ → Tables
 linksOf w = view w [] [] .tables
 
@@ -91,20 +65,29 @@ pub reach-view : (w d n : List ℕ) (u : ℕ) → reach (linksOf w) u ≡ reach 
 unfolding view feedersOf feeds rowOf
 reach-view w d n u = reach-same (linksOf w) (view w d n .tables) (λ p. refl) (λ p. refl) u
 
-module _ (w : List ℕ) (bound : (i : ℕ) → getD w i 0 < 2 ^ 64) where
-  pub outs-of : (p : ℕ) → p < 16 → feeds (linksOf w) p ≡ getD (part 81 16 w) p 0
-  unfolding feeds
-  outs-of p hp = both-set w [] [] p (row-bound w bound 81 16 p)
+-- what each process maps both ways
+unfoldable pub fedRows : List ℕ → List ℕ
+fedRows w = table 16 (λ p. mapsIn w p ∩ waysIn w p)
 
-  pub ins-of : (p : ℕ) → p < 16 → feedersOf (linksOf w) p ≡ feedersIn (part 65 32 w) p
-  unfolding feedersOf sortOf
-  ins-of p hp =
-      ap₂ _∪_ (read-set w [] [] p (row-bound w bound 65 16 p) ∙ sym (part-at 65 16 w p hp) ∙ part-at 65 32 w p (omega arith))
-      (both-set w [] [] p (row-bound w bound 81 16 p) ∙ sym (part-at 81 16 w p hp) ∙ ap (λ (z : ℕ). getD w z 0) (omega arith) ∙ part-at 65 32 w (16 + p) (omega arith))
+module _ (w : List ℕ) (bound : (i : ℕ) → getD w i 0 < 2 ^ 64) where
+  maps-lt : (p : ℕ) → mapsIn w p < 2 ^ 64
+  unfolding mapsIn
+  maps-lt p = bound (65 + p)
+
+  pub outs-of : (p : ℕ) → p < 16 → feeds (linksOf w) p ≡ getD (fedRows w) p 0
+  unfolding fedRows
+  outs-of p hp = feeds-is w [] [] p hp (maps-lt p) ∙ sym (table-at 16 _ p 0 hp)
+
+  pub ins-of : (p : ℕ) → p < 16 → feedersOf (linksOf w) p ≡ getD (part 65 16 w) p 0
+  unfolding mapsIn
+  ins-of p hp = feeders-is w [] [] p hp (bound (65 + p)) ∙ part-at 65 16 w p hp
 
   pub outs-bound : (p : ℕ) → feeds (linksOf w) p < 2 ^ 64
-  unfolding feeds
-  outs-bound p = subst (λ (x : ℕ). x < 2 ^ 64) (sym (both-set w [] [] p (row-bound w bound 81 16 p))) (row-bound w bound 81 16 p)
+  outs-bound p = go (decLt p 16)
+    where
+      go : Dec (p < 16) → feeds (linksOf w) p < 2 ^ 64
+      go (yes h) = subst (λ (x : ℕ). x < 2 ^ 64) (sym (feeds-is w [] [] p h (maps-lt p))) (inter-lt (mapsIn w p) (waysIn w p) (maps-lt p))
+      go (no h) = subst (λ (x : ℕ). x < 2 ^ 64) (sym (feeds-past w [] [] p (omega arith))) (omega arith)
 
 -- ---- the items replaced, as a part that was lent comes back
 module _ (w l d n : List ℕ) (long : length w ≡ 353) (size : length l ≡ 64) where
@@ -118,9 +101,12 @@ module _ (w l d n : List ℕ) (long : length w ≡ 353) (size : length l ≡ 64)
   put-after : drop 65 (putMid 1 64 w l) ≡ drop 65 w
   put-after = drop-put 1 65 w l (omega arith) (omega arith) size
 
-  -- a part further behind
-  put-behind : (i n : ℕ) → take n (drop (65 + i) (putMid 1 64 w l)) ≡ take n (drop (65 + i) w)
-  put-behind i n = ap (take n) (sym (drop-drop i 65 (putMid 1 64 w l)) ∙ ap (drop i) put-after ∙ drop-drop i 65 w)
+  -- a word behind them
+  behind : (j : ℕ) → 65 ≤ j → getD (putMid 1 64 w l) j 0 ≡ getD w j 0
+  behind j h =
+      let e : j ≡ 65 + (j - 65) = omega arith in
+      ap (λ (k : ℕ). getD (putMid 1 64 w l) k 0) e ∙ sym (getD-drop 65 (putMid 1 64 w l) (j - 65) 0) ∙ ap (λ (z : List ℕ). getD z (j - 65) 0) put-after ∙ getD-drop 65 w (j - 65) 0
+      ∙ ap (λ (k : ℕ). getD w k 0) (sym e)
 
   pub items-put : view (putMid 1 64 w l) d n ≡ withItems (view w d n) l
   unfolding view part
@@ -129,8 +115,8 @@ module _ (w l d n : List ℕ) (long : length w ≡ 353) (size : length l ≡ 64)
         tables =
             record {
               live = (sym (getD-take 1 (putMid 1 64 w l) 0 0 (omega arith)) ∙ ap (λ (x : List ℕ). getD x 0 0) (take-put 1 64 w l (omega arith)) ∙ getD-take 1 w 0 0 (omega arith)) k;
-              reads = rowsIn (take 16 (put-after k)) (put-behind 32 128 k);
-              boths = rowsIn (put-behind 16 16 k) (put-behind 160 128 k);
+              reads = rows-same readRow w (putMid 1 64 w l) (λ p h. read-same w (putMid 1 64 w l) p (λ j m. behind j (mine-behind p j m))) k;
+              boths = rows-same bothRow w (putMid 1 64 w l) (λ p h. both-same w (putMid 1 64 w l) p (λ j m. behind j (mine-behind p j m))) k;
               descriptors = d;
               names = n;
             };
@@ -179,10 +165,15 @@ fresh-view =
       tables =
           record {
             live = 0;
-            reads = rows-none (replicate 16 0) (replicate 128 0) (zeros 16) k;
-            boths = rows-none (replicate 16 0) (replicate 128 0) (zeros 16) k;
+            reads = rows-fresh readRow (λ p h. read-none (replicate 353 0) p (zeros 353 (65 + p))) k;
+            boths = rows-fresh bothRow (λ p h. both-none (replicate 353 0) p (zeros 353 (65 + p))) k;
             descriptors = replicate 512 closed;
             names = replicate 128 closed;
           };
       items = replicate 64 0;
     }
+  where
+    rows-fresh : (row : List ℕ → ℕ → List ℕ) → ((p : ℕ) → p < 16 → row (replicate 353 0) p ≡ noMappings) → table 16 (row (replicate 353 0)) ≡ replicate 16 noMappings
+    rows-fresh row f =
+        ext-getD [] (table 16 (row (replicate 353 0))) (replicate 16 noMappings) (table-length 16 _ ∙ sym (length-replicate {A = List ℕ} 16 noMappings))
+        (λ p h. let e : length (table 16 (row (replicate 353 0))) ≡ 16 = table-length 16 _ in let l : p < 16 = omega arith in table-at 16 _ p [] l ∙ f p l ∙ sym (getD-replicate 16 p noMappings [] l))

@@ -1,16 +1,20 @@
 -- A store in one part of the words leaves the others.
-use Prim.Native.Nat.{ℕ, zero, suc, _+_, _-_, _*_, _<_, _≤_}
+use Prim.Native.Nat.{ℕ, _+_, _-_, _*_, _<_, _≤_}
 use native.Mathlib.Omega.{arith}
-use native.Mathlib.Decide.{ℕ-discrete, decLt}
-use mathlib.Core.Path.{_≡_, refl, ap, _∙_}
-use mathlib.Core.Logic.{_⊎_, inl, inr}
-use mathlib.Core.List.{List}
-use lib.ListN.{length, getD, set, take, drop}
-use lib.Seq.{take-set-lt, take-set-le, drop-set-lt, drop-set-add, getD-set-same, getD-set-other}
-use Rattle.flow.specs.Box.{rowOf}
-use Rattle.flow.specs.Calls.{withLive, withRow, sortOf}
-use Rattle.store.specs.Maps.{part, view, withTables, rowIn, rowsIn}
-use Rattle.store.proofs.Counting.{rows-at}
+use native.Mathlib.Decide.{ℕ-discrete}
+use mathlib.Core.Path.{_≡_, refl, sym, ap, ap₂, subst, _∙_}
+use mathlib.Core.List.{List, []}
+use lib.ListN.{length, getD, set, take, drop, length-set, List·getD-eq-default}
+use lib.Seq.{take-set-lt, take-set-le, drop-set-lt, drop-set-add, getD-set-same, getD-set-other, ext-getD}
+use Rattle.sets.specs.Sets.{_∩_}
+use Rattle.flow.specs.Lists.{table}
+use Rattle.flow.specs.Box.{Sort, toRead, bothWays, rowOf}
+use Rattle.flow.specs.Calls.{withLive, withRow, withRows}
+use Rattle.flow.proofs.TableLaws.{table-at, table-length}
+use Rattle.flow.proofs.Mapping.{Sized}
+use Rattle.store.specs.Maps.{part, view, withTables, rowIn, mapsIn, waysIn, readsAt, bothsAt, readRow, bothRow}
+use Rattle.store.proofs.Parts.{part-at, part-length}
+use Rattle.store.proofs.Counting.{row-words}
 
 module _ (a n : ℕ) (w : List ℕ) where
   pub part-in : (i v : ℕ) → i < n → part a n (set w (a + i) v) ≡ set (part a n w) i v
@@ -27,6 +31,63 @@ module _ (a n : ℕ) (w : List ℕ) where
       let e : j ≡ a + (j - a) = omega arith in
       ap (λ (k : ℕ). take n (drop a (set w k v))) e ∙ ap (take n) (drop-set-add a w (j - a) v) ∙ take-set-le n (drop a w) (j - a) v (omega arith)
 
+-- ---- the places of process p in the words: its two sets and its words of counts
+pub data Mine (p : ℕ) : ℕ → Type 0 where
+  maps : Mine p (65 + p)
+  ways : Mine p (81 + p)
+  reads : (i : ℕ) → i < 8 → Mine p (readsAt p + i)
+  boths : (i : ℕ) → i < 8 → Mine p (bothsAt p + i)
+
+-- outside them the words are as before
+pub record Outside (p : ℕ) (w w′ : List ℕ) : Type 0 where
+  pub size : length w′ ≡ length w
+  pub same : (j : ℕ) → (Mine p j → ⊥) → getD w′ j 0 ≡ getD w j 0
+
+pub outside-none : (p : ℕ) (w : List ℕ) → Outside p w w
+outside-none p w = record { size = refl; same = λ j h. refl }
+
+pub outside-more : {p : ℕ} {w w′ w″ : List ℕ} → Outside p w w′ → Outside p w′ w″ → Outside p w w″
+outside-more f g = record { size = g .size ∙ f .size; same = λ j h. g .same j h ∙ f .same j h }
+
+pub outside-set : (p : ℕ) (w : List ℕ) (j v : ℕ) → Mine p j → Outside p w (set w j v)
+outside-set p w j v m = record { size = length-set w j v; same = λ i h. getD-set-other w j i v 0 (λ e. h (subst (Mine p) (sym e) m)) }
+
+-- a row of a process goes by its places
+pub read-same : (w w′ : List ℕ) (q : ℕ) → ((j : ℕ) → Mine q j → getD w′ j 0 ≡ getD w j 0) → readRow w′ q ≡ readRow w q
+unfolding readRow mapsIn waysIn
+read-same w w′ q f = ap₂ (λ (x y : ℕ). rowIn x y w′ (readsAt q)) (f (65 + q) maps) (f (81 + q) ways) ∙ row-words _ _ w w′ (readsAt q) (readsAt q) (λ i h. f (readsAt q + i) (reads i h))
+
+pub both-same : (w w′ : List ℕ) (q : ℕ) → ((j : ℕ) → Mine q j → getD w′ j 0 ≡ getD w j 0) → bothRow w′ q ≡ bothRow w q
+unfolding bothRow mapsIn waysIn
+both-same w w′ q f =
+    ap₂ (λ (x y : ℕ). rowIn (x ∩ y) 0 w′ (bothsAt q)) (f (65 + q) maps) (f (81 + q) ways) ∙ row-words _ 0 w w′ (bothsAt q) (bothsAt q) (λ i h. f (bothsAt q + i) (boths i h))
+
+-- the rows of all processes: as before, or but for one
+pub rows-same : (row : List ℕ → ℕ → List ℕ) (w w′ : List ℕ) → ((p : ℕ) → p < 16 → row w′ p ≡ row w p) → table 16 (row w′) ≡ table 16 (row w)
+rows-same row w w′ f =
+    ext-getD [] (table 16 (row w′)) (table 16 (row w)) (table-length 16 (row w′) ∙ sym (table-length 16 (row w)))
+    (λ p h. let e : length (table 16 (row w′)) ≡ 16 = table-length 16 (row w′) in
+    let l : p < 16 = omega arith in
+    table-at 16 (row w′) p [] l ∙ f p l ∙ sym (table-at 16 (row w) p [] l))
+
+rows-one : (row : List ℕ → ℕ → List ℕ) (w w′ : List ℕ) (p : ℕ) (l : List ℕ) → p < 16 → row w′ p ≡ l → ((q : ℕ) → q < 16 → (q ≡ p → ⊥) → row w′ q ≡ row w q) → table 16 (row w′) ≡ set (table 16 (row w)) p l
+rows-one row w w′ p l hp e f =
+    ext-getD [] (table 16 (row w′)) (set (table 16 (row w)) p l) (table-length 16 (row w′) ∙ sym (length-set (table 16 (row w)) p l ∙ table-length 16 (row w)))
+    (λ q h. let m : length (table 16 (row w′)) ≡ 16 = table-length 16 (row w′) in let b : q < 16 = omega arith in table-at 16 (row w′) q [] b ∙ one q b (ℕ-discrete q p))
+  where
+    one : (q : ℕ) → q < 16 → Dec (q ≡ p) → row w′ q ≡ getD (set (table 16 (row w)) p l) q []
+    one q b (yes i) = rw i (e ∙ sym (getD-set-same (table 16 (row w)) p l [] (let m : length (table 16 (row w)) ≡ 16 = table-length 16 (row w) in omega arith)))
+    one q b (no i) = f q b i ∙ sym (getD-set-other (table 16 (row w)) p q l [] i ∙ table-at 16 (row w) q [] b)
+
+pub mine-behind : (p j : ℕ) → Mine p j → 65 ≤ j
+mine-behind p _ maps = omega arith
+mine-behind p _ ways = omega arith
+mine-behind p _ (reads i h) = omega arith
+mine-behind p _ (boths i h) = omega arith
+
+not-first : (p j : ℕ) → Mine p j → j ≡ 0 → ⊥
+not-first p j m e = let l : 65 ≤ j = mine-behind p j m in let z : ⊥ = omega arith in z
+
 module _ (w d n : List ℕ) where
   pub live-set : (v : ℕ) → 0 < length w → view (set w 0 v) d n ≡ withTables (view w d n) (withLive (view w d n .tables) v)
   unfolding view withLive
@@ -35,122 +96,78 @@ module _ (w d n : List ℕ) where
         tables =
             record {
               live = getD-set-same w 0 v 0 h k;
-              reads = rowsIn (part-before 65 16 w 0 v (omega arith) k) (part-before 97 128 w 0 v (omega arith) k);
-              boths = rowsIn (part-before 81 16 w 0 v (omega arith) k) (part-before 225 128 w 0 v (omega arith) k);
+              reads = rows-same readRow w (set w 0 v) (λ p l. read-same w (set w 0 v) p (λ j m. getD-set-other w 0 j v 0 (not-first p j m))) k;
+              boths = rows-same bothRow w (set w 0 v) (λ p l. both-same w (set w 0 v) p (λ j m. getD-set-other w 0 j v 0 (not-first p j m))) k;
               descriptors = d;
               names = n;
             };
         items = part-before 1 64 w 0 v (omega arith) k;
       }
 
--- ---- the mappings of one sort stored
--- its sets and its words of counts
-abbrev pub setsOf : ℕ → List ℕ → List ℕ
-setsOf x w = part (65 + 16 * x) 16 w
+-- what is not among them: the live processes, the items, and the places of another process
+pub not-mine : (p j : ℕ) → (j ≡ 65 + p → ⊥) → (j ≡ 81 + p → ⊥) → ((i : ℕ) → i < 8 → j ≡ 97 + 8 * p + i → ⊥) → ((i : ℕ) → i < 8 → j ≡ 225 + 8 * p + i → ⊥) → Mine p j → ⊥
+not-mine p j a b c d maps = a refl
+not-mine p j a b c d ways = b refl
+not-mine p j a b c d (reads i h) = c i h refl
+not-mine p j a b c d (boths i h) = d i h refl
 
-abbrev pub countsOf : ℕ → List ℕ → List ℕ
-countsOf x w = part (97 + 128 * x) 128 w
+apart : (p q j : ℕ) → p < 16 → q < 16 → (q ≡ p → ⊥) → Mine q j → Mine p j → ⊥
+apart p q _ hp hq e maps =
+    not-mine p (65 + q) (λ f. e (omega arith)) (λ f. let z : ⊥ = omega arith in z) (λ i l f. let z : ⊥ = omega arith in z) (λ i l f. let z : ⊥ = omega arith in z)
+apart p q _ hp hq e ways =
+    not-mine p (81 + q) (λ f. let z : ⊥ = omega arith in z) (λ f. e (omega arith)) (λ i l f. let z : ⊥ = omega arith in z) (λ i l f. let z : ⊥ = omega arith in z)
+apart p q _ hp hq e (reads k h) =
+    not-mine p (readsAt q + k) (λ f. let z : ⊥ = omega arith in z) (λ f. let z : ⊥ = omega arith in z) (λ i l f. e (omega arith)) (λ i l f. let z : ⊥ = omega arith in z)
+apart p q _ hp hq e (boths k h) =
+    not-mine p (bothsAt q + k) (λ f. let z : ⊥ = omega arith in z) (λ f. let z : ⊥ = omega arith in z) (λ i l f. let z : ⊥ = omega arith in z) (λ i l f. e (omega arith))
 
--- all but these are as before
-pub record Stored (x : ℕ) (w w′ : List ℕ) : Type 0 where
-  pub live : getD w′ 0 0 ≡ getD w 0 0
-  pub items : part 1 64 w′ ≡ part 1 64 w
-  pub sets : (y : ℕ) → y < 2 → (y ≡ x → ⊥) → setsOf y w′ ≡ setsOf y w
-  pub counts : (y : ℕ) → y < 2 → (y ≡ x → ⊥) → countsOf y w′ ≡ countsOf y w
+module _ (w w′ d n : List ℕ) (p : ℕ) (hp : p < 16) (long : length w ≡ 353) (o : Outside p w w′) where
+  before : (j : ℕ) → j < 65 → getD w′ j 0 ≡ getD w j 0
+  before j h =
+      o .same j
+      (not-mine p j (λ e. let z : ⊥ = omega arith in z) (λ e. let z : ⊥ = omega arith in z) (λ i l e. let z : ⊥ = omega arith in z) (λ i l e. let z : ⊥ = omega arith in z))
 
-pub stored-none : (x : ℕ) (w : List ℕ) → Stored x w w
-stored-none x w = record { live = refl; items = refl; sets = λ y l e. refl; counts = λ y l e. refl }
+  items-same : part 1 64 w′ ≡ part 1 64 w
+  items-same =
+      ext-getD 0 (part 1 64 w′) (part 1 64 w) (part-length 1 64 w′ (omega (arith, o .size)) ∙ sym (part-length 1 64 w (omega arith)))
+      (λ i h. let l : length (part 1 64 w′) ≡ 64 = part-length 1 64 w′ (omega (arith, o .size)) in
+      sym (part-at 1 64 w′ i (omega arith)) ∙ before (1 + i) (omega arith) ∙ part-at 1 64 w i (omega arith))
 
-pub stored-more : {x : ℕ} {w w′ w″ : List ℕ} → Stored x w w′ → Stored x w′ w″ → Stored x w w″
-stored-more f g =
-    record {
-      live = g .live ∙ f .live;
-      items = g .items ∙ f .items;
-      sets = λ y l e. g .sets y l e ∙ f .sets y l e;
-      counts = λ y l e. g .counts y l e ∙ f .counts y l e;
-    }
+  -- the rows of another process
+  others : (q : ℕ) → q < 16 → (q ≡ p → ⊥) → (j : ℕ) → Mine q j → getD w′ j 0 ≡ getD w j 0
+  others q hq e j m = o .same j (apart p q j hp hq e m)
 
--- a store outside a part
-part-apart : (a n : ℕ) (w : List ℕ) (j v : ℕ) → (j < a) ⊎ (a + n ≤ j) → part a n (set w j v) ≡ part a n w
-part-apart a n w j v (inl h) = part-before a n w j v h
-part-apart a n w j v (inr h) = part-after a n w j v h
-
-module _ (x : ℕ) (hx : x < 2) (w : List ℕ) where
-  -- a set, and a word of counts
-  pub stored-set : (p v : ℕ) → p < 16 → Stored x w (set w (65 + 16 * x + p) v)
-  stored-set p v h =
-      record {
-        live = getD-set-other w (65 + 16 * x + p) 0 v 0 (λ e. let z : ⊥ = omega arith in z);
-        items = part-after 1 64 w (65 + 16 * x + p) v (omega arith);
-        sets = λ y l e. part-apart (65 + 16 * y) 16 w (65 + 16 * x + p) v (side y l e);
-        counts = λ y l e. part-before (97 + 128 * y) 128 w (65 + 16 * x + p) v (omega arith);
+  -- the maps then: both rows of the process are others
+  pub rows-stored : (l k : List ℕ) → readRow w′ p ≡ l → bothRow w′ p ≡ k → view w′ d n ≡ withTables (view w d n) (withRows (view w d n .tables) p l k)
+  unfolding view withRows withRow
+  rows-stored l k e f =
+      λ i. record {
+        tables =
+            record {
+              live = before 0 (omega arith) i;
+              reads = rows-one readRow w w′ p l hp e (λ q hq h. read-same w w′ q (others q hq h)) i;
+              boths = rows-one bothRow w w′ p k hp f (λ q hq h. both-same w w′ q (others q hq h)) i;
+              descriptors = d;
+              names = n;
+            };
+        items = items-same i;
       }
-    where
-      side : (y : ℕ) → y < 2 → (y ≡ x → ⊥) → (65 + 16 * x + p < 65 + 16 * y) ⊎ (65 + 16 * y + 16 ≤ 65 + 16 * x + p)
-      side y l e = go (decLt x y)
-        where
-          go : Dec (x < y) → (65 + 16 * x + p < 65 + 16 * y) ⊎ (65 + 16 * y + 16 ≤ 65 + 16 * x + p)
-          go (yes m) = inl (omega arith)
-          go (no m) = inr (go′ (ℕ-discrete y x))
-            where
-              go′ : Dec (y ≡ x) → 65 + 16 * y + 16 ≤ 65 + 16 * x + p
-              go′ (yes q) = absurd (e q)
-              go′ (no q) = omega arith
 
-  pub stored-count : (i v : ℕ) → i < 128 → Stored x w (set w (97 + 128 * x + i) v)
-  stored-count i v h =
-      record {
-        live = getD-set-other w (97 + 128 * x + i) 0 v 0 (λ e. let z : ⊥ = omega arith in z);
-        items = part-after 1 64 w (97 + 128 * x + i) v (omega arith);
-        sets = λ y l e. part-after (65 + 16 * y) 16 w (97 + 128 * x + i) v (omega arith);
-        counts = λ y l e. part-apart (97 + 128 * y) 128 w (97 + 128 * x + i) v (side y l e);
-      }
-    where
-      side : (y : ℕ) → y < 2 → (y ≡ x → ⊥) → (97 + 128 * x + i < 97 + 128 * y) ⊎ (97 + 128 * y + 128 ≤ 97 + 128 * x + i)
-      side y l e = go (decLt x y)
-        where
-          go : Dec (x < y) → (97 + 128 * x + i < 97 + 128 * y) ⊎ (97 + 128 * y + 128 ≤ 97 + 128 * x + i)
-          go (yes m) = inl (omega arith)
-          go (no m) = inr (go′ (ℕ-discrete y x))
-            where
-              go′ : Dec (y ≡ x) → 97 + 128 * y + 128 ≤ 97 + 128 * x + i
-              go′ (yes q) = absurd (e q)
-              go′ (no q) = omega arith
+-- ---- the rows that the maps have
+unfoldable pub rowOfWords : Sort → List ℕ → ℕ → List ℕ
+rowOfWords toRead w p = readRow w p
+rowOfWords bothWays w p = bothRow w p
 
--- the maps then: one row is another
-pub row-stored : (x : ℕ) → x < 2 → (w w′ d n : List ℕ) (p : ℕ) (l : List ℕ) → Stored x w w′
-    → rowsIn (setsOf x w′) (countsOf x w′) ≡ set (rowsIn (setsOf x w) (countsOf x w)) p l
-    → view w′ d n ≡ withTables (view w d n) (withRow (view w d n .tables) (sortOf x) p l)
-unfolding view withRow sortOf
-row-stored zero h w w′ d n p l s e =
-    λ k. record {
-      tables =
-          record {
-            live = s .live k;
-            reads = e k;
-            boths = rowsIn (s .sets 1 (omega arith) (λ q. let z : ⊥ = omega arith in z) k) (s .counts 1 (omega arith) (λ q. let z : ⊥ = omega arith in z) k);
-            descriptors = d;
-            names = n;
-          };
-      items = s .items k;
-    }
-row-stored (suc zero) h w w′ d n p l s e =
-    λ k. record {
-      tables =
-          record {
-            live = s .live k;
-            reads = rowsIn (s .sets 0 (omega arith) (λ q. let z : ⊥ = omega arith in z) k) (s .counts 0 (omega arith) (λ q. let z : ⊥ = omega arith in z) k);
-            boths = e k;
-            descriptors = d;
-            names = n;
-          };
-      items = s .items k;
-    }
-row-stored (suc (suc x)) h w w′ d n p l s e = absurd (let z : ⊥ = omega arith in z)
+pub row-viewed : (x : Sort) (w d n : List ℕ) (p : ℕ) → p < 16 → rowOf (view w d n .tables) x p ≡ rowOfWords x w p
+unfolding view rowOf rowOfWords
+row-viewed toRead w d n p h = table-at 16 (readRow w) p [] h
+row-viewed bothWays w d n p h = table-at 16 (bothRow w) p [] h
 
--- and how the row of the sort and process was: by its set and its words
-pub row-viewed : (x : ℕ) → x < 2 → (w d n : List ℕ) (p : ℕ) → p < 16 → rowOf (view w d n .tables) (sortOf x) p ≡ rowIn (getD (setsOf x w) p 0) (countsOf x w) p
-unfolding view rowOf sortOf
-row-viewed zero h w d n p hp = rows-at (setsOf 0 w) (countsOf 0 w) p hp
-row-viewed (suc zero) h w d n p hp = rows-at (setsOf 1 w) (countsOf 1 w) p hp
-row-viewed (suc (suc x)) h w d n p hp = absurd (let z : ⊥ = omega arith in z)
+pub row-past : (x : Sort) (w d n : List ℕ) (p : ℕ) → 16 ≤ p → rowOf (view w d n .tables) x p ≡ []
+unfolding view rowOf
+row-past toRead w d n p h = List·getD-eq-default (table 16 (readRow w)) [] {n = p} (let e : length (table 16 (readRow w)) ≡ 16 = table-length 16 (readRow w) in omega arith)
+row-past bothWays w d n p h = List·getD-eq-default (table 16 (bothRow w)) [] {n = p} (let e : length (table 16 (bothRow w)) ≡ 16 = table-length 16 (bothRow w) in omega arith)
+
+pub sized-view : (w d n : List ℕ) → Sized (view w d n .tables)
+unfolding view
+sized-view w d n = record { reads = table-length 16 (readRow w); boths = table-length 16 (bothRow w) }

@@ -1,12 +1,12 @@
 -- How three lent arrays stand for the maps of document 01, The box: the storage map, the alias map (02, Paper 4) and the naming maps.
-use Prim.Native.Nat.{ℕ, suc, _+_, _-_, _*_, _/_, _%_, _^_}
-use mathlib.Core.Bool.{true, false}
+use Prim.Native.Nat.{ℕ, zero, suc, _+_, _-_, _*_, _/_, _%_, _^_}
+use mathlib.Core.Bool.{Bool, true, false}
 use mathlib.Core.List.{List, [], _∷_}
-use lib.Dec.{ltb}
+use lib.Dec.{ltb, eqb}
 use lib.ListN.{getD, take, drop}
 use denote.Ref.{RefT}
 use denote.Triple.Both.{Both}
-use Rattle.sets.specs.Sets.{has, only, _∪_}
+use Rattle.sets.specs.Sets.{has, only, _∪_, _∩_}
 use Rattle.flow.specs.Lists.{table}
 use Rattle.flow.specs.Box.{containerCount, processCount, isFile, Tables}
 use Rattle.flow.specs.Links.{given}
@@ -44,37 +44,57 @@ byteOf w j = w / 2 ^ (8 * j) % 256
 unfoldable pub putByte : ℕ → ℕ → ℕ → ℕ
 putByte w j n = (w / 2 ^ (8 * j) - byteOf w j + n) * 2 ^ (8 * j) + w % 2 ^ (8 * j)
 
--- the row of counts of process p: 0 where the set x lacks the container, else one more than its byte. Whatever is stored is a row
--- (a byte of 255 stands for 256, which no call makes)
-unfoldable pub rowIn : ℕ → List ℕ → ℕ → List ℕ
-rowIn x counts p = table containerCount (λ c. elim (has x c) [ true ↦ suc (byteOf (getD counts (8 * p + c / 8) 0) (c % 8)) | false ↦ 0 ])
+-- a count by its byte: 0 where the pair is not mapped; else the byte, and where the count cannot be 0 at least 1
+unfoldable pub countBy : Bool → Bool → ℕ → ℕ
+countBy false y b = 0
+countBy true true b = b
+countBy true false b = elim (eqb b 0) [ true ↦ 1 | false ↦ b ]
 
--- the rows of one sort, by its sets and its words of counts
-unfoldable pub rowsIn : List ℕ → List ℕ → List (List ℕ)
-rowsIn sets counts = table processCount (λ p. rowIn (getD sets p 0) counts p)
+-- the row of counts by two sets and the eight words from `at` on. Whatever is stored is a row
+unfoldable pub rowIn : ℕ → ℕ → List ℕ → ℕ → List ℕ
+rowIn x y words at = table containerCount (λ c. countBy (has x c) (has y c) (byteOf (getD words (at + c / 8) 0) (c % 8)))
 
--- where the set of a sort and process stands in the words, and the word with the count of container c
-unfoldable pub setPlace : ℕ → ℕ → ℕ
-setPlace x p = 65 + 16 * x + p
+-- the containers that process p maps at all, and a set of which those are mapped both ways
+unfoldable pub mapsIn : List ℕ → ℕ → ℕ
+mapsIn words p = getD words (65 + p) 0
 
-unfoldable pub countPlace : ℕ → ℕ → ℕ → ℕ
-countPlace x p c = 97 + 128 * x + (8 * p + c / 8)
+unfoldable pub waysIn : List ℕ → ℕ → ℕ
+waysIn words p = getD words (81 + p) 0
 
--- the words: the set of live processes at 0, the items from 1 on, the sets mapped for reading from 65 on, those mapped both ways from 81 on,
--- the counts of either sort from 97 and from 225 on
+-- where the words of counts of process p begin, for reading and both ways
+abbrev pub readsAt : ℕ → ℕ
+readsAt p = 97 + 8 * p
+
+abbrev pub bothsAt : ℕ → ℕ
+bothsAt p = 225 + 8 * p
+
+-- its rows: what it maps, but not both ways, it maps for reading at least once; what it maps both ways it need not map for reading
+unfoldable pub readRow : List ℕ → ℕ → List ℕ
+readRow words p = rowIn (mapsIn words p) (waysIn words p) words (readsAt p)
+
+unfoldable pub bothRow : List ℕ → ℕ → List ℕ
+bothRow words p = rowIn (mapsIn words p ∩ waysIn words p) 0 words (bothsAt p)
+
+-- the words: the set of live processes at 0, the items from 1 on, for each process the set mapped from 65 on and that mapped both ways from 81 on,
+-- its counts for reading from 97 on and both ways from 225 on
 unfoldable pub view : List ℕ → List ℕ → List ℕ → Maps
 view words descriptors names =
     record {
       tables =
           record {
             live = getD words 0 0;
-            reads = rowsIn (part 65 processCount words) (part 97 128 words);
-            boths = rowsIn (part 81 processCount words) (part 225 128 words);
+            reads = table processCount (readRow words);
+            boths = table processCount (bothRow words);
             descriptors = descriptors;
             names = names;
           };
       items = itemsIn words;
     }
+
+-- what the first n processes map both ways
+unfoldable pub fedUpTo : List ℕ → ℕ → ℕ
+fedUpTo words zero = 0
+fedUpTo words (suc n) = fedUpTo words n ∪ (mapsIn words n ∩ waysIn words n)
 
 -- an array that is lent to a function: what it holds at the call (`now (x .entry)`) and at the return (`now (x .exit)`)
 abbrev pub Lent : Type 0

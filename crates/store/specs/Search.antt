@@ -1,20 +1,16 @@
 -- The search for the reach, among the processes of a set.
-use Prim.Native.Nat.{ℕ, _+_}
+use Prim.Native.Nat.{ℕ}
 use mathlib.Core.Path.{_≡_}
 use mathlib.Core.Bool.{Bool, true, false, _||_}
 use mathlib.Core.List.{List}
 use lib.ListN.{getD}
-use Rattle.sets.specs.Sets.{has, _∪_}
-use Rattle.flow.specs.Box.{processCount, containerOf}
+use Rattle.sets.specs.Sets.{has}
+use Rattle.flow.specs.Box.{containerOf}
 use Rattle.flow.specs.Links.{meets}
 
--- the containers that feed process p, by the sets of all processes: those for reading, then those both ways
-abbrev pub feedersIn : List ℕ → ℕ → ℕ
-feedersIn rows p = getD rows p 0 ∪ getD rows (processCount + p) 0
-
--- process p is fed from the set x
+-- process p, by its set of what it maps, is fed from the set x
 abbrev pub fedFrom : List ℕ → ℕ → ℕ → Bool
-fedFrom rows x p = meets x (feedersIn rows p)
+fedFrom rows x p = meets x (getD rows p 0)
 
 -- process p is in the set x or fed from it
 abbrev pub comesNext : List ℕ → ℕ → ℕ → Bool

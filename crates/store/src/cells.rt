@@ -7,7 +7,7 @@ use crate::limits::BLOCK;
 use crate::limits::CONTAINERS;
 use crate::limits::ITEMS_AT;
 use crate::limits::NAMES;
-use crate::limits::READS_AT;
+use crate::limits::MAPS_AT;
 use crate::numbers::Descriptor;
 use crate::numbers::Name;
 use crate::numbers::Process;
@@ -62,7 +62,7 @@ fn make_part(words: &mut [u64], plan: Plan)
     requires { ⌜ length (now words) ≡ 353 ⌝ }
     ensures { λ _. ⌜ ((d n : List ℕ) → let m = view (now (words .entry)) d n in view (now (words .exit)) d n ≡ withItems m (itemsBy (m .items) plan)) ⌝ }
 {
-    make(&mut words[ITEMS_AT..READS_AT], plan);
+    make(&mut words[ITEMS_AT..MAPS_AT], plan);
 }
 
 // Makes a plan of the items.
@@ -76,7 +76,7 @@ fn empty_one_part(words: &mut [u64], c: u8)
     requires { ⌜ length (now words) ≡ 353 ⌝ }
     ensures { λ _. ⌜ ((d n : List ℕ) → let m = view (now (words .entry)) d n in view (now (words .exit)) d n ≡ withItems m (cleared (m .items) (only (c % 64)))) ⌝ }
 {
-    empty_at(&mut words[ITEMS_AT..READS_AT], c);
+    empty_at(&mut words[ITEMS_AT..MAPS_AT], c);
 }
 
 // Empties the container of number e, where there is one: a closed entry's has none.

@@ -1,6 +1,6 @@
 // Where the maps of document 01 lie: three arrays, lent to each function. Nothing above this crate knows an offset.
-//   words        the set of live processes at 0, the items of each container from 1 on, the containers that each process maps for reading
-//                from 65 on and both ways from 81 on, the counts of these mappings from 97 on (document 02, Paper 4)
+//   words        the set of live processes at 0, the items of each container from 1 on, the containers that each process maps from 65 on,
+//                those of them that it maps both ways from 81 on, the counts of these mappings from 97 on (document 02, Paper 4)
 //   descriptors  32 for each process
 //   names        128
 pub mod blocks;

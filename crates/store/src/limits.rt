@@ -14,9 +14,6 @@ pub const FILES: u64 = 0xFFFF_FFFF_FF00_0000;
 
 pub const PROCESSES: u8 = 16;
 
-// The same number, as a length.
-pub const ROWS: usize = 16;
-
 pub const ALL_PROCESSES: u64 = 0xFFFF;
 
 // Of each process.
@@ -45,20 +42,20 @@ pub const CLOSED: u8 = 255;
 // The live processes stand at 0.
 pub const ITEMS_AT: usize = 1;
 
-// For each process the containers that it maps for reading, and those that it maps both ways.
-pub const READS_AT: usize = 65;
+// For each process the containers that it maps, and those of them that it maps both ways.
+pub const MAPS_AT: usize = 65;
 
-pub const BOTHS_AT: usize = 81;
+pub const WAYS_AT: usize = 81;
 
-// For each sort of mapping and each process eight words of counts less one, a byte for each container.
-pub const COUNTS_AT: usize = 97;
+// For each process eight words with a byte for each container: its counts for reading, then those both ways.
+pub const READS_AT: usize = 97;
+
+pub const BOTHS_AT: usize = 225;
 
 pub const WORDS: usize = 353;
 
-// The words of counts of a process, and of all processes, of one sort.
+// The words of counts of a process.
 pub const COUNTS: usize = 8;
 
-pub const ALL_COUNTS: usize = 128;
-
-// The byte of a count at its limit of 255.
-pub const LAST: u8 = 254;
+// The greatest count of mappings (document 02, Paper 4).
+pub const FULL: u8 = 255;

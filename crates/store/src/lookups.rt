@@ -1,16 +1,16 @@
 // Looking things up. Every number but a name's in `name` is taken as it is: past a table's end stands what the definitions say.
 use crate::limits::BLOCK;
-use crate::limits::BOTHS_AT;
 use crate::limits::CLOSED;
 use crate::limits::CONTAINERS;
-use crate::limits::COUNTS_AT;
 use crate::limits::DEVICES;
 use crate::limits::FIRST_FILE;
 use crate::limits::ITEMS_AT;
+use crate::limits::MAPS_AT;
 use crate::limits::NAMES;
 use crate::limits::PROCESSES;
 use crate::limits::READS_AT;
 use crate::limits::TARGETS;
+use crate::limits::WAYS_AT;
 use crate::numbers::Container;
 use crate::numbers::Descriptor;
 use crate::numbers::Name;
@@ -21,9 +21,9 @@ ghost use mathlib.Core.List.{List};
 ghost use lib.ListN.{getD, length};
 ghost use Rattle.sets.specs.Sets.{has, unionOf};
 ghost use Rattle.flow.specs.Lists.{isIn};
-ghost use Rattle.flow.specs.Box.{isTarget, slot, closed, toRead, bothWays, rowOf, mappedIn};
+ghost use Rattle.flow.specs.Box.{isTarget, slot, closed, feedersOf};
 ghost use Rattle.flow.specs.Links.{used, isFed};
-ghost use Rattle.store.specs.Maps.{part, view, mapsBefore};
+ghost use Rattle.store.specs.Maps.{part, view, mapsBefore, fedUpTo};
 
 // Whether i is a member of x.
 pub fn holds(x: u64, i: u8) -> bool
@@ -91,24 +91,13 @@ pub fn is_live(words: &[u64; 353], p: Process) -> bool
     holds(words[0], p.0)
 }
 
-// The containers that process p maps for reading.
-pub fn reads(words: &[u64; 353], p: Process) -> u64
-    ensures { λ r. ⌜ ((d n : List ℕ) → r ≡ mappedIn (rowOf (view (now (words .entry)) d n .tables) toRead (p .0))) ⌝ }
+// The containers that process p maps: those that feed it.
+pub fn maps(words: &[u64; 353], p: Process) -> u64
+    ensures { λ r. ⌜ ((d n : List ℕ) → r ≡ feedersOf (view (now (words .entry)) d n .tables) (p .0)) ⌝ }
 {
     let cells: &[u64] = words;
     if p.0 < PROCESSES {
-        return cells[READS_AT + p.0 as usize];
-    }
-    0
-}
-
-// Those that it maps both ways.
-pub fn boths(words: &[u64; 353], p: Process) -> u64
-    ensures { λ r. ⌜ ((d n : List ℕ) → r ≡ mappedIn (rowOf (view (now (words .entry)) d n .tables) bothWays (p .0))) ⌝ }
-{
-    let cells: &[u64] = words;
-    if p.0 < PROCESSES {
-        return cells[BOTHS_AT + p.0 as usize];
+        return cells[MAPS_AT + p.0 as usize];
     }
     0
 }
@@ -137,24 +126,40 @@ fn stands(table: &[u8], c: u8) -> bool
 // The containers that some process maps.
 fn mapped(words: &[u64]) -> u64
     requires { ⌜ length (now words) ≡ 353 ⌝ }
-    ensures { λ r. ⌜ r ≡ unionOf (part 65 32 (now (words .entry))) ⌝ }
+    ensures { λ r. ⌜ r ≡ unionOf (part 65 16 (now (words .entry))) ⌝ }
 {
-    sets::union_of(&words[READS_AT..COUNTS_AT])
+    sets::union_of(&words[MAPS_AT..WAYS_AT])
 }
 
-// The containers that links lead into.
-fn fed_set(words: &[u64]) -> u64
+// Those that some process may map both ways.
+fn ways_set(words: &[u64]) -> u64
     requires { ⌜ length (now words) ≡ 353 ⌝ }
     ensures { λ r. ⌜ r ≡ unionOf (part 81 16 (now (words .entry))) ⌝ }
 {
-    sets::union_of(&words[BOTHS_AT..COUNTS_AT])
+    sets::union_of(&words[WAYS_AT..READS_AT])
+}
+
+// Those that some process maps both ways.
+fn fed_set(words: &[u64]) -> u64
+    requires { ⌜ length (now words) ≡ 353 ⌝ }
+    ensures { λ r. ⌜ r ≡ fedUpTo (now (words .entry)) 16 ⌝ }
+{
+    let mut x = 0u64;
+    for p in 0usize..16usize {
+        x = x | (words[MAPS_AT + p] & words[WAYS_AT + p]);
+    }
+    x
 }
 
 // Whether a link leads into the file, pipe or device c.
 pub fn is_fed(words: &[u64; 353], c: Container) -> bool
     ensures { λ r. ⌜ ((d n : List ℕ) → r ≡ isFed (view (now (words .entry)) d n .tables) (c .0)) ⌝ }
 {
-    holds(fed_set(words), c.0)
+    let cells: &[u64] = words;
+    if !holds(ways_set(cells), c.0) {
+        return false;
+    }
+    holds(fed_set(cells), c.0)
 }
 
 // Whether container c is in use.

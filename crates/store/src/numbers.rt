@@ -1,5 +1,5 @@
-// Numbers of processes, containers, descriptors, names and sorts of mapping, each a type of its own (document 01, The box; document 02,
-// Paper 4). They are built after their range was tested.
+// Numbers of processes, containers, descriptors, names and sorts of mapping, each a type of its own (document 01, The box). They are built after their range
+// was tested.
 pub struct Process(pub u8);
 
 pub struct Container(pub u8);

@@ -7,12 +7,11 @@ use store::limits::CONTAINERS;
 use store::limits::DEVICES;
 use store::limits::FILES;
 use store::limits::FIRST_FILE;
-use store::lookups::boths;
 use store::lookups::descriptor;
 use store::lookups::in_use;
 use store::lookups::is_fed;
 use store::lookups::name;
-use store::lookups::reads;
+use store::lookups::maps;
 use store::numbers::Container;
 use store::numbers::Descriptor;
 use store::numbers::Name;
@@ -29,8 +28,7 @@ ghost use Rattle.tracker.specs.Plans.{heldBy, lostSet, lostAt, freeAt, e
 fn held_by(words: &[u64; 353], descriptors: &[u8; 512], p: u8) -> u64
     ensures { λ r. ⌜ ((n : List ℕ) → r ≡ heldBy (view (now (words .entry)) (now (descriptors .entry)) n .tables) p) ⌝ }
 {
-    block_files(descriptors, Process(p))
-        | ((reads(words, Process(p)) | boths(words, Process(p))) & FILES)
+    block_files(descriptors, Process(p)) | (maps(words, Process(p)) & FILES)
 }
 
 // What a call may end the use of: what an entry leads to, or unmap's container, where that is a file or pipe (closed where there is none),

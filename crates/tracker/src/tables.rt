@@ -5,8 +5,8 @@ use store::blocks::copy_block;
 use store::cells::set_descriptor;
 use store::cells::set_live;
 use store::cells::set_name;
-use store::counts::clear_row;
-use store::counts::copy_row;
+use store::counts::clear_rows;
+use store::counts::copy_rows;
 use store::counts::lower;
 use store::counts::raise;
 use store::limits::BOTH_WAYS;
@@ -71,8 +71,7 @@ fn fork(words: &mut [u64; 353], descriptors: &mut [u8; 512], p: u8, child: u8)
     ensures { λ _. ⌜ ((n : List ℕ) → let m = view (now (words .entry)) (now (descriptors .entry)) n in view (now (words .exit)) (now (descriptors .exit)) n ≡ withTables m (tablesBy (m .tables) p child 0 0 forking)) ⌝ }
 {
     let z = live(words);
-    copy_row(words, Sort(TO_READ), Process(p), Process(child));
-    copy_row(words, Sort(BOTH_WAYS), Process(p), Process(child));
+    copy_rows(words, Process(p), Process(child));
     set_live(words, sets::with(z, child));
     copy_block(descriptors, Process(p), Process(child));
 }
@@ -83,8 +82,7 @@ fn exit(words: &mut [u64; 353], descriptors: &mut [u8; 512], p: u8)
     ensures { λ _. ⌜ ((n : List ℕ) → let m = view (now (words .entry)) (now (descriptors .entry)) n in view (now (words .exit)) (now (descriptors .exit)) n ≡ withTables m (tablesBy (m .tables) p 0 0 0 exiting)) ⌝ }
 {
     let z = live(words);
-    clear_row(words, Sort(TO_READ), Process(p));
-    clear_row(words, Sort(BOTH_WAYS), Process(p));
+    clear_rows(words, Process(p));
     set_live(words, sets::without(z, p));
     close_block(descriptors, Process(p));
 }

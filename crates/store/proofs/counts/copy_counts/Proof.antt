@@ -2,6 +2,7 @@
 use Prim.Native.Nat.{ℕ, _+_, _-_, _*_, _≤_, _<_}
 use native.Mathlib.Omega.{arith}
 use mathlib.Core.Path.{_≡_, refl, sym, ap, _∙_}
+use mathlib.Core.Logic.{_⊎_, inl, inr}
 use mathlib.Core.List.{List}
 use lib.ListN.{length, getD, set}
 use Rattle.store.specs.Maps.{part}
@@ -12,10 +13,10 @@ use Rattle.store.proofs.counts.copy_counts.Statement.{statement}
 use Rattle.store.proofs.counts.copy_counts.Tie as tie
 
 abbrev Inv-loop : tie.InvT-loop
-Inv-loop words₀ from to source at i₀ words i = (i ≤ 8) × (words ≡ laid words₀ (97 + 8 * to) (part (97 + 8 * from) 8 words₀) i)
+Inv-loop words₀ source at i₀ words i = (i ≤ 8) × (words ≡ laid words₀ at (part source 8 words₀) i)
 
 abbrev μ-loop : tie.MeasureT-loop
-μ-loop words₀ from to source at i₀ words i = 8 - i
+μ-loop words₀ source at i₀ words i = 8 - i
 
 -- the words at the start, and where the two blocks stand
 module _ (c : tie.At-loop Inv-loop μ-loop) where
@@ -23,10 +24,10 @@ module _ (c : tie.At-loop Inv-loop μ-loop) where
   list = c .before .args .words .now
 
   abbrev at : ℕ
-  at = 97 + 8 * c .before .args .to
+  at = c .before .args .at
 
   abbrev source : ℕ
-  source = 97 + 8 * c .before .args .from
+  source = c .before .args .source
 
   eight : length (part source 8 list) ≡ 8
   eight = part-length source 8 list (omega (arith, c .before .pre .0, c .before .pre .1))
@@ -37,6 +38,12 @@ module _ (c : tie.At-loop Inv-loop μ-loop) where
   kept : length (c .loop .words) ≡ 353
   kept = ap length (c .loop .inv .1) ∙ same (c .loop .i) (c .loop .inv .0)
 
+-- no word is read that was stored to
+apart : (s a i : ℕ) → i < 8 → (s ≡ a) ⊎ ((s + 8 < a + 1) ⊎ (a + 8 < s + 1)) → (j : ℕ) → j < i → s + i ≡ a + j → ⊥
+apart s a i h (inl e) j l f = let z : ⊥ = omega arith in z
+apart s a i h (inr (inl e)) j l f = let z : ⊥ = omega arith in z
+apart s a i h (inr (inr e)) j l f = let z : ⊥ = omega arith in z
+
 loop-again : tie.Need-loop-again Inv-loop μ-loop
 loop-again c =
     let b = c .before .before in
@@ -46,7 +53,7 @@ loop-again c =
       omega arith,
       ap (λ (x : List ℕ). set x (at b + i) (getD x (source b + i) 0)) (b .loop .inv .1)
           ∙ laid-more (list b) (at b) (part (source b) 8 (list b)) i _ (omega (arith, pre .0, pre .2)) (omega (arith, eight b))
-          (paste-read (list b) (source b) (at b) 8 i (omega (arith, pre .0, pre .1)) (omega (arith, pre .0, pre .2)) below (λ j l e. let z : ⊥ = omega arith in z)),
+          (paste-read (list b) (source b) (at b) 8 i (omega (arith, pre .0, pre .1)) (omega (arith, pre .0, pre .2)) below (apart (source b) (at b) i below (pre .3))),
     )
 
 returns : tie.Need-returns Inv-loop μ-loop
@@ -59,5 +66,5 @@ returns c =
 pub copy-counts-spec : {M : Type 1} → statement M
 copy-counts-spec =
     tie.close
-    (tie.spec Inv-loop μ-loop (λ c. search needs) (λ c. search needs) (λ c. search needs) (λ c. search needs) (λ c. (omega arith, laid-none _ _ _)) (λ c. search needs) (λ c. search needs) (λ c. omega (arith, kept (c .before .before), c .before .loop-test .taken)) (λ c. search needs) (λ c. search needs)
+    (tie.spec Inv-loop μ-loop (λ c. (omega arith, laid-none _ _ _)) (λ c. search needs) (λ c. search needs) (λ c. omega (arith, kept (c .before .before), c .before .loop-test .taken)) (λ c. search needs) (λ c. search needs)
     (λ c. omega (arith, kept (c .before .before), c .before .loop-test .taken)) (λ c. search needs) (λ c. search needs) loop-again (λ c. kept (c .before) ∙ sym (c .before .before .pre .0)) returns)

@@ -1,7 +1,7 @@
 -- `first_fed` tries the processes left, the lowest first.
 use Prim.Native.Nat.{_<_}
 use native.Mathlib.Omega.{arith}
-use Rattle.sets.specs.Sets.{_∩_, _∪_, count}
+use Rattle.sets.specs.Sets.{_∩_, count}
 use Rattle.sets.proofs.Members.{turn-fewer}
 use Rattle.flow.proofs.Meets.{meets-true, meets-false}
 use Rattle.store.specs.Search.{fedFrom}
@@ -22,22 +22,21 @@ below c = seek-below (c .before .before .loop .inv) (c .before .loop-test .taken
 
 loop-less : tie.Need-loop-less Inv-loop μ-loop
 loop-less c =
-    let b = c .before .before .before .before in
+    let b = c .before .before .before in
     turn-fewer _ (omega (arith, b .before .before .loop .inv .small)) (b .before .loop-test .taken) _ (b .lowest .ensures) _ (c .without .ensures)
 
 loop-again : tie.Need-loop-again Inv-loop μ-loop
-unfolding _∩_ _∪_
+unfolding _∩_
 loop-again c =
-    let b = c .before .before .before .before in
+    let b = c .before .before .before in
     seek-miss (b .before .before .loop .inv) (b .before .loop-test .taken) _ (b .lowest .ensures) (meets-false _ _ (c .before .if1 .left)) _ (c .without .ensures)
 
 pub first-fed-spec : {M : Type 1} → statement M
-unfolding _∩_ _∪_
+unfolding _∩_
 first-fed-spec =
     tie.close
     (tie.spec Inv-loop μ-loop (λ c. seek-start _ _ (c .before .pre .1)) (λ c κs. search needs) (λ c. omega (arith, below c)) (λ c. omega (arith, below c))
-    (λ c. omega (arith, below c)) (λ c. omega (arith, below (c .before))) (λ c. omega (arith, below (c .before)))
-    (λ c. omega (arith, below (c .before))) (λ c. omega (arith, below (c .before))) (λ c. omega (arith, below (c .before .before)))
-    (λ c. let b = c .before .before .before in seek-hit (b .before .before .loop .inv) (b .before .loop-test .taken) _ (b .lowest .ensures) (meets-true _ _ (c .if1 .taken)))
+    (λ c. omega (arith, below c)) (λ c. omega (arith, below (c .before)))
+    (λ c. let b = c .before .before in seek-hit (b .before .before .loop .inv) (b .before .loop-test .taken) _ (b .lowest .ensures) (meets-true _ _ (c .if1 .taken)))
     (λ c κs. search needs) loop-less loop-again
     (λ c. seek-end (c .before .loop .inv) (c .loop-test .left)))

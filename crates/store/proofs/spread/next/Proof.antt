@@ -13,25 +13,25 @@ cast-result : tie.Need-cast-result
 unfolding _∩_
 cast-result c =
     let b = c .before .before .before in
-    omega (arith, own-below (part 65 32 (b .args .words .now)) (b .args .x) (b .args .left) (b .fits .x .fits) (c .before .if1 .taken) _ (c .lowest .ensures))
+    omega (arith, own-below (part 65 16 (b .args .words .now)) (b .args .x) (b .args .left) (b .fits .x .fits) (c .before .if1 .taken) _ (c .lowest .ensures))
 
 returns : tie.Need-returns
 unfolding _∩_
 returns c =
     let b = c .before .before .before in
-    next-own (part 65 32 (b .args .words .now)) _ _ (b .fits .x .fits) (c .before .if1 .taken) _ (c .lowest .ensures)
+    next-own (part 65 16 (b .args .words .now)) _ _ (b .fits .x .fits) (c .before .if1 .taken) _ (c .lowest .ensures)
 
 returns-2 : tie.Need-returns-2
 unfolding _∩_
 returns-2 c =
     let b = c .before .before .before in
-    next-none _ _ _ (c .before .if1 .left) (part-length 65 32 _ (omega (arith, b .pre .0))) (b .pre .2) (ap (λ y. b .args .x ∩ y) (sym (b .pre .1)) ∙ c .if2 .taken)
+    next-none _ _ _ (c .before .if1 .left) (part-length 65 16 _ (omega (arith, b .pre .0))) (b .pre .2) (ap (λ y. b .args .x ∩ y) (sym (b .pre .1)) ∙ c .if2 .taken)
 
 returns-3 : tie.Need-returns-3
 unfolding _∩_ part
 returns-3 c =
     let b = c .before .before .before in
-    next-fed (part 65 32 (b .before .before .args .words .now)) _ _ (b .if1 .left) _ (c .first-fed .ensures)
+    next-fed (part 65 16 (b .before .before .args .words .now)) _ _ (b .if1 .left) _ (c .first-fed .ensures)
 
 pub next-spec : {M : Type 1} → statement M
 next-spec =

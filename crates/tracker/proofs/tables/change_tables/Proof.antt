@@ -43,21 +43,21 @@ unfolding sortOf kindNumber needOf
 raise-requires c κs =
     let m = c .before .before .before in
     let s = m .before in
-    (omega arith, process-lt (s .pre), rw (c .before .descriptor .ensures) (leads-to (s .pre) mapRead (m .match .keys8) refl), rw (c .before .descriptor .ensures) (room-read (s .pre) (m .match .keys8)))
+    (process-lt (s .pre), rw (c .before .descriptor .ensures) (leads-to (s .pre) mapRead (m .match .keys8) refl), rw (c .before .descriptor .ensures) (room-read (s .pre) (m .match .keys8)))
 
 raise-requires-2 : tie.Need-raise-requires-2
 unfolding sortOf kindNumber needOf
 raise-requires-2 c κs =
     let m = c .before .before .before in
     let s = m .before in
-    (omega arith, process-lt (s .pre), rw (c .before .descriptor2 .ensures) (leads-to (s .pre) mapBoth (m .match .keys9) refl), rw (c .before .descriptor2 .ensures) (room-both (s .pre) (m .match .keys9)))
+    (process-lt (s .pre), rw (c .before .descriptor2 .ensures) (leads-to (s .pre) mapBoth (m .match .keys9) refl), rw (c .before .descriptor2 .ensures) (room-both (s .pre) (m .match .keys9)))
 
 lower-requires : tie.Need-lower-requires
 unfolding kindNumber ranges
 lower-requires c κs =
     let m = c .before in
     let s = m .before in
-    (sort-b (s .pre) unmap (m .match .keys10) refl, process-lt (s .pre), container-a (s .pre) unmap (m .match .keys10) refl, some-mapping (s .pre) (m .match .keys10))
+    (process-lt (s .pre), container-a (s .pre) unmap (m .match .keys10) refl, some-mapping (s .pre) (m .match .keys10))
 
 pub change-tables-spec : {M : Type 1} → statement M
 unfolding kindNumber needOf ranges view withLive withDescriptors withNames tablesAt tablesBy kinds descriptor name

@@ -1,8 +1,8 @@
 -- Mappings, live processes and descriptors, one after the other.
 use native.Mathlib.Nat.{mod-eq-of-lt}
 use mathlib.Core.Path.{refl, ap, _∙_}
-use Rattle.flow.specs.Box.{bothWays, rowOf}
-use Rattle.flow.specs.Calls.{withLive, withRow, withRows, withDescriptors, sortOf, tablesBy}
+use Rattle.flow.specs.Box.{rowOf}
+use Rattle.flow.specs.Calls.{withLive, withRow, withRows, withDescriptors, tablesBy}
 use Rattle.store.specs.Maps.{Maps, withTables, view}
 use Rattle.tracker.proofs.Facts.{below16}
 use borrow.Author.Needs.{needs}
@@ -10,19 +10,17 @@ use Rattle.tracker.proofs.tables.fork.Statement.{statement}
 use Rattle.tracker.proofs.tables.fork.Tie as tie
 
 returns : tie.Need-returns
-unfolding view withLive withRow withRows withDescriptors rowOf sortOf tablesBy
+unfolding view withLive withRow withRows withDescriptors rowOf tablesBy
 returns c n =
     let c2 = c .before .before in
     let c3 = c2 .before in
     let c5 = c3 .before .before in
     let c7 = c5 .before .before in
-    let c9 = c7 .before .before in
-    let s = c9 .before .before in
+    let s = c7 .before .before in
     let d = c .copy-block .last .0 in
     c2 .set-live .ensures d n
-    ∙ ap (λ (m : Maps). withTables m (withLive (m .tables) (c3 .with .result)))
-    (c5 .copy-row2 .ensures d n ∙ ap (λ (m : Maps). withTables m (withRow (m .tables) bothWays (s .args .child) (rowOf (m .tables) bothWays (s .args .p)))) (c7 .copy-row .ensures d n))
-    ∙ rw (c .copy-block .ensures, c3 .with .ensures, c9 .live .ensures, mod-eq-of-lt (s .pre .0), mod-eq-of-lt (s .pre .1), below16 (s .pre .1)) refl
+    ∙ ap (λ (m : Maps). withTables m (withLive (m .tables) (c3 .with .result))) (c5 .copy-rows .ensures d n)
+    ∙ rw (c .copy-block .ensures, c3 .with .ensures, c7 .live .ensures, mod-eq-of-lt (s .pre .0), mod-eq-of-lt (s .pre .1), below16 (s .pre .1)) refl
 
 pub fork-spec : {M : Type 1} → statement M
-fork-spec = tie.close (tie.spec (λ c κs. search needs) (λ c κs. search needs) (λ c κs. search needs) (λ c κs. search needs) (λ c κs. search needs) (λ c κs. search needs) returns)
+fork-spec = tie.close (tie.spec (λ c κs. search needs) (λ c κs. search needs) (λ c κs. search needs) (λ c κs. search needs) (λ c κs. search needs) returns)
