@@ -12,3 +12,4 @@ pub mod Worklist
 pub mod Words
 pub mod Files
 pub mod Packing
+pub mod Raising

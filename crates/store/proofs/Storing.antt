@@ -190,7 +190,7 @@ module _ (w d n : List ℕ) (long : length w ≡ 353) (p q : ℕ) (hp : p < 16) 
   abbrev given : List ℕ → Type 0
   given w′ = view w′ d n ≡ withTables (view w d n) (withRows from q (rowOf from toRead p) (rowOf from bothWays p))
 
-  size-sets : length sets ≡ 353
+  pub size-sets : length sets ≡ 353
   size-sets = length-set (set w (65 + q) _) (81 + q) _ ∙ length-set w (65 + q) _ ∙ long
 
   outside-sets : Outside q w sets

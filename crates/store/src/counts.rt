@@ -120,12 +120,27 @@ fn more_read(x: Cells, c: u8) -> Cells
     let reads = x.reads;
     let boths = x.boths;
     if !sets::member(maps, c) {
-        return Cells { maps: sets::with(maps, c), ways: sets::without(ways, c), reads: one(reads, c % 8), boths };
+        return Cells {
+            maps: sets::with(maps, c),
+            ways: sets::without(ways, c),
+            reads: one(reads, c % 8),
+            boths,
+        };
     }
     if sets::member(ways, c) {
-        return Cells { maps, ways, reads: one_more(reads, c % 8), boths };
+        return Cells {
+            maps,
+            ways,
+            reads: one_more(reads, c % 8),
+            boths,
+        };
     }
-    Cells { maps, ways, reads: one_more(least(reads, c % 8), c % 8), boths }
+    Cells {
+        maps,
+        ways,
+        reads: one_more(least(reads, c % 8), c % 8),
+        boths,
+    }
 }
 
 // One both ways more.
@@ -138,12 +153,27 @@ fn more_both(x: Cells, c: u8) -> Cells
     let reads = x.reads;
     let boths = x.boths;
     if !sets::member(maps, c) {
-        return Cells { maps: sets::with(maps, c), ways: sets::with(ways, c), reads: cleared(reads, c % 8), boths: one(boths, c % 8) };
+        return Cells {
+            maps: sets::with(maps, c),
+            ways: sets::with(ways, c),
+            reads: cleared(reads, c % 8),
+            boths: one(boths, c % 8),
+        };
     }
     if !sets::member(ways, c) {
-        return Cells { maps, ways: sets::with(ways, c), reads: least(reads, c % 8), boths: one(boths, c % 8) };
+        return Cells {
+            maps,
+            ways: sets::with(ways, c),
+            reads: least(reads, c % 8),
+            boths: one(boths, c % 8),
+        };
     }
-    Cells { maps, ways, reads, boths: one_more(least(boths, c % 8), c % 8) }
+    Cells {
+        maps,
+        ways,
+        reads,
+        boths: one_more(least(boths, c % 8), c % 8),
+    }
 }
 
 // One for reading less.
@@ -156,9 +186,19 @@ fn less_read(x: Cells, c: u8) -> Cells
     let reads = x.reads;
     let boths = x.boths;
     if !sets::member(ways, c) & (byte(reads, c % 8) < 2) {
-        return Cells { maps: sets::without(maps, c), ways, reads, boths };
+        return Cells {
+            maps: sets::without(maps, c),
+            ways,
+            reads,
+            boths,
+        };
     }
-    Cells { maps, ways, reads: one_less(reads, c % 8), boths }
+    Cells {
+        maps,
+        ways,
+        reads: one_less(reads, c % 8),
+        boths,
+    }
 }
 
 // One both ways less.
@@ -171,12 +211,27 @@ fn less_both(x: Cells, c: u8) -> Cells
     let reads = x.reads;
     let boths = x.boths;
     if 1 < byte(boths, c % 8) {
-        return Cells { maps, ways, reads, boths: one_less(boths, c % 8) };
+        return Cells {
+            maps,
+            ways,
+            reads,
+            boths: one_less(boths, c % 8),
+        };
     }
     if byte(reads, c % 8) == 0 {
-        return Cells { maps: sets::without(maps, c), ways, reads, boths };
+        return Cells {
+            maps: sets::without(maps, c),
+            ways,
+            reads,
+            boths,
+        };
     }
-    Cells { maps, ways: sets::without(ways, c), reads, boths }
+    Cells {
+        maps,
+        ways: sets::without(ways, c),
+        reads,
+        boths,
+    }
 }
 
 // Whether process p has a mapping of a sort of container c.
@@ -188,7 +243,8 @@ pub fn maps(words: &[u64; 353], x: Sort, p: Process, c: Container) -> bool
     }
     let cells = cells_of(words, p.0, c.0);
     if x.0 == TO_READ {
-        return sets::member(cells.maps, c.0) & (!sets::member(cells.ways, c.0) | (byte(cells.reads, c.0 % 8) != 0));
+        return sets::member(cells.maps, c.0)
+            & (!sets::member(cells.ways, c.0) | (byte(cells.reads, c.0 % 8) != 0));
     }
     sets::member(cells.maps, c.0) & sets::member(cells.ways, c.0)
 }
@@ -204,7 +260,9 @@ pub fn is_full(words: &[u64; 353], x: Sort, p: Process, c: Container) -> bool
     if x.0 == TO_READ {
         return sets::member(cells.maps, c.0) & (byte(cells.reads, c.0 % 8) == FULL);
     }
-    sets::member(cells.maps, c.0) & sets::member(cells.ways, c.0) & (byte(cells.boths, c.0 % 8) == FULL)
+    sets::member(cells.maps, c.0)
+        & sets::member(cells.ways, c.0)
+        & (byte(cells.boths, c.0 % 8) == FULL)
 }
 
 // One mapping of a sort more.

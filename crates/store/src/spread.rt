@@ -2,9 +2,9 @@
 use crate::limits::ALL_PROCESSES;
 use crate::limits::CONTAINERS;
 use crate::limits::DEVICES;
+use crate::limits::MAPS_AT;
 use crate::limits::NONE;
 use crate::limits::WAYS_AT;
-use crate::limits::MAPS_AT;
 use crate::numbers::Container;
 ghost use mathlib.Core.Path.{_≡_};
 ghost use mathlib.Core.List.{List};
