@@ -15,7 +15,7 @@ use Rattle.store.specs.declared.Plan.{Plan}
 use Rattle.sets.specs.Sets.{_∪_}
 use Rattle.store.specs.Maps.{Maps, withItems, itemsIn, view as mapsOf, itemsBy}
 use Rattle.store.proofs.Parts.{part-length}
-use Rattle.store.proofs.Words.{sized-view}
+use Rattle.store.proofs.Writes.{sized-view}
 use Rattle.tracker.specs.declared.Call.{Call as Bytes}
 use Rattle.tracker.specs.Rows.{callIn, Passes}
 use Rattle.tracker.specs.Plans.{nothing, planAt, givesAt}

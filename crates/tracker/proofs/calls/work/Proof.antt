@@ -4,7 +4,7 @@ use mathlib.Core.Path.{_≡_, ap, _∙_}
 use lib.ListN.{length}
 use Rattle.store.specs.Maps.{Maps, view}
 use Rattle.store.proofs.Parts.{part-length}
-use Rattle.store.proofs.Words.{sized-view}
+use Rattle.store.proofs.Writes.{sized-view}
 use Rattle.tracker.specs.Rows.{Passes}
 use Rattle.tracker.specs.Worked.{finished}
 use Rattle.tracker.proofs.Joined.{refused, passes, still-passes, finished-call, worked-out}
