@@ -229,6 +229,25 @@ pub lowest-none : lowest 0 ≡ 64
 unfolding lowest trailingZeros
 lowest-none = refl
 
+-- a member of x is one of x - 1, but for the lowest
+before-has : (k x i : ℕ) → x < 2 ^ k → 0 < x → has x i ≡ true → has (x - 1) i ≡ not (eqb i (trailingZeros k x))
+unfolding trailingZeros
+before-has zero x i h p m = absurd (omega arith)
+before-has (suc k) x i h p m = go (x % 2) refl i m (λ j. before-has k (x / 2) j (omega arith))
+  where
+    go : (n : ℕ) → x % 2 ≡ n → (i : ℕ) → has x i ≡ true → ((j : ℕ) → 0 < x / 2 → has (x / 2) j ≡ true → has (x / 2 - 1) j ≡ not (eqb j (trailingZeros k (x / 2)))) → has (x - 1) i ≡ not (eqb i (under n (trailingZeros k (x / 2))))
+    go zero e zero m f = absurd (true≢false (sym m ∙ has-zero x ∙ rw e refl))
+    go zero e (suc i) m f =
+        has-suc (x - 1) i ∙ ap (λ (n : ℕ). has n i) (let q : (x - 1) / 2 ≡ x / 2 - 1 = omega arith in q)
+        ∙ f i (omega arith) (sym (has-suc x i) ∙ m) ∙ sym (ap not (eqb·suc-suc i _))
+    go (suc n) e zero m f = has-zero (x - 1) ∙ (let q : (x - 1) % 2 ≡ 0 = omega arith in rw q refl)
+    go (suc n) e (suc i) m f =
+        has-suc (x - 1) i ∙ ap (λ (n : ℕ). has n i) (let q : (x - 1) / 2 ≡ x / 2 = omega arith in q) ∙ sym (has-suc x i) ∙ m ∙ sym (ap not (eqb·suc-zero i))
+
+under-first : (b : Bool) {c d : Bool} → (b ≡ true → c ≡ d) → (b && c) ≡ (b && d)
+under-first true f = f refl
+under-first false f = refl
+
 pub lt-pow : (x : ℕ) → x < 2 ^ x
 lt-pow zero = omega arith
 lt-pow (suc x) = omega (arith, lt-pow x)
@@ -301,6 +320,17 @@ less-only x i h l =
     (λ j k.
     less-has x (only i) j (only-lt i l) k ∙ rw (only-has i j, eqb-sym i j) (sym (without-has x i j k)))
 
+-- x less its lowest member
+pub rest-is : (x : ℕ) → x < 2 ^ 64 → 0 < x → x ∩ (x - 1) ≡ without x (lowest x)
+unfolding lowest
+rest-is x h p =
+    set-ext (x ∩ (x - 1)) (without x (lowest x)) (inter-lt x (x - 1) h) (without-lt x (lowest x))
+    (λ i k. inter-has x (x - 1) i ∙ under-first (has x i) (λ m. before-has 64 x i h p m) ∙ sym (without-has x (lowest x) i k))
+
+pub rest-none : (i : ℕ) → without 0 i ≡ 0
+rest-none i =
+    set-ext (without 0 i) 0 (without-lt 0 i) (omega arith) (λ j k. without-has 0 i j k ∙ ap (λ (b : Bool). b && not (eqb j i)) (none-has j) ∙ sym (none-has j))
+
 pub without-le : (x i : ℕ) → x < 2 ^ 64 → i < 64 → without x i ≤ x
 without-le x i h l = rw (less-only x i h l) at (inter-le x (2 ^ 64 - 1 - only i))
 
@@ -368,6 +398,9 @@ module _ (left : ℕ) (small : left < 2 ^ 64) (more : left ≡ 0 → ⊥) (v : �
 
   pub itself : v % 64 ≡ v
   itself = mod-eq-of-lt turn-below
+
+  pub turn-rest : (later : ℕ) → later ≡ without left (lowest left) → later ≡ without left (v % 64)
+  turn-rest later e = e ∙ ap (without left) (sym is ∙ sym itself)
 
   pub turn-fewer : (later : ℕ) → later ≡ without left (v % 64) → count later < count left
   turn-fewer later e = rw (e, itself) (omega (arith, count-less left v small member))

@@ -31,6 +31,16 @@ pub fn without(x: u64, i: u8) -> u64
     x & !one(i)
 }
 
+// x less its lowest member.
+pub fn rest(x: u64) -> u64
+    ensures { λ r. ⌜ r ≡ without x (lowest x) ⌝ }
+{
+    if x == 0 {
+        return 0;
+    }
+    x & (x - 1)
+}
+
 pub fn union(x: u64, y: u64) -> u64
     ensures { λ r. ⌜ r ≡ x ∪ y ⌝ }
 {

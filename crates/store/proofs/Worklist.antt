@@ -15,7 +15,7 @@ use Rattle.flow.specs.Links.{given}
 use Rattle.flow.proofs.Bools.{chosen-l, chosen-r}
 use Rattle.flow.proofs.TableLaws.{table-at, table-length, is-table}
 use Rattle.store.specs.Maps.{cleared}
-pub use Rattle.sets.proofs.Members.{without-at, without-other, member, turn-below, turn-fewer}
+pub use Rattle.sets.proofs.Members.{without-at, without-other, member, turn-below, turn-fewer, turn-rest}
 
 -- ---- the loop: each member of the set r has its cell y replaced by f y
 abbrev pub mapped : (ℕ → ℕ) → List ℕ → ℕ → List ℕ

@@ -25,7 +25,7 @@ pub fn give(items: &mut [u64], r: u64, x: u64)
     while left != 0 {
         let v = sets::lowest(left) as u8;
         give_at(items, v, x);
-        left = sets::without(left, v);
+        left = sets::rest(left);
     }
 }
 
@@ -46,6 +46,6 @@ pub fn empty(items: &mut [u64], r: u64)
     while left != 0 {
         let v = sets::lowest(left) as u8;
         empty_at(items, v);
-        left = sets::without(left, v);
+        left = sets::rest(left);
     }
 }

@@ -26,7 +26,7 @@ fn first_fed(rows: &[u64], left: u64, x: u64) -> u8
         if x & rows[p as usize] != 0 {
             return p;
         }
-        todo = sets::without(todo, p);
+        todo = sets::rest(todo);
     }
     NONE
 }
