@@ -13,3 +13,4 @@ pub mod Words
 pub mod Files
 pub mod Packing
 pub mod Raising
+pub mod Unused

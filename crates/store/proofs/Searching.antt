@@ -75,7 +75,7 @@ module _ {f : ℕ → Bool} {left todo : ℕ} (s : Seek f left todo) (more : tod
       go q m n (no d) = by (has todo q) (λ k. no-both (without-other todo p q (omega (arith, has-below 16 todo q (s .small) k)) d ∙ k) n) (λ k. s .rest q m k)
 
 -- ---- the process that comes next
-shifted : (x p : ℕ) → has (x / 2 ^ 8) p ≡ has x (containerOf p)
+pub shifted : (x p : ℕ) → has (x / 2 ^ 8) p ≡ has x (containerOf p)
 unfolding has
 shifted x p = ap (λ (n : ℕ). eqb (n % 2) 1) (shr-shr x 8 p)
 
@@ -153,7 +153,7 @@ sixteen : 65535 ≡ those (λ p. ltb p 16)
 unfolding those thoseFrom bit
 sixteen = refl
 
-sixteen-has : (p : ℕ) → p < 16 → has 65535 p ≡ true
+pub sixteen-has : (p : ℕ) → p < 16 → has 65535 p ≡ true
 sixteen-has p h = ap (λ (x : ℕ). has x p) sixteen ∙ those-has (λ p. ltb p 16) p (omega arith) ∙ lt-ltb p 16 h
 
 pub search-start : (t : Tables) (g : List ℕ) (u : ℕ) → u < 64 → Search t g u (0 ∪ only (u % 64)) 65535

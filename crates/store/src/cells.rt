@@ -88,3 +88,17 @@ pub fn empty_container(words: &mut [u64; 353], e: u8)
         empty_one_part(cells, e);
     }
 }
+
+fn empty_part(words: &mut [u64], x: u64)
+    requires { ⌜ length (now words) ≡ 353 ⌝ }
+    ensures { λ _. ⌜ ((d n : List ℕ) → let m = view (now (words .entry)) d n in view (now (words .exit)) d n ≡ withItems m (cleared (m .items) x)) ⌝ }
+{
+    empty(&mut words[ITEMS_AT..MAPS_AT], x);
+}
+
+// Empties every container of the set x.
+pub fn empty_set(words: &mut [u64; 353], x: u64)
+    ensures { λ _. ⌜ ((d n : List ℕ) → let m = view (now (words .entry)) d n in view (now (words .exit)) d n ≡ withItems m (cleared (m .items) x)) ⌝ }
+{
+    empty_part(words, x);
+}

@@ -16,6 +16,9 @@ pub const PROCESSES: u8 = 16;
 
 pub const ALL_PROCESSES: u64 = 0xFFFF;
 
+// The set of all processes' containers, 8 to 23.
+pub const PROCESS_CONTAINERS: u64 = 0xFF_FF00;
+
 // Of each process.
 pub const DESCRIPTORS: u8 = 32;
 

@@ -1,12 +1,15 @@
 // Looking things up. Every number but a name's in `name` is taken as it is: past a table's end stands what the definitions say.
+use crate::limits::ALL_PROCESSES;
 use crate::limits::BLOCK;
 use crate::limits::CLOSED;
 use crate::limits::CONTAINERS;
 use crate::limits::DEVICES;
+use crate::limits::FILES;
 use crate::limits::FIRST_FILE;
 use crate::limits::ITEMS_AT;
 use crate::limits::MAPS_AT;
 use crate::limits::NAMES;
+use crate::limits::PROCESS_CONTAINERS;
 use crate::limits::PROCESSES;
 use crate::limits::READS_AT;
 use crate::limits::TARGETS;
@@ -17,9 +20,10 @@ use crate::numbers::Name;
 use crate::numbers::Process;
 ghost use Prim.Native.Nat.{ℕ, _%_};
 ghost use mathlib.Core.Path.{_≡_};
+ghost use mathlib.Core.Bool.{true, false, not, _&&_};
 ghost use mathlib.Core.List.{List};
 ghost use lib.ListN.{getD, length};
-ghost use Rattle.sets.specs.Sets.{has, unionOf};
+ghost use Rattle.sets.specs.Sets.{has, only, those, _∪_, unionOf};
 ghost use Rattle.flow.specs.Lists.{isIn};
 ghost use Rattle.flow.specs.Box.{isTarget, slot, closed, feedersOf};
 ghost use Rattle.flow.specs.Links.{used, isFed};
@@ -131,6 +135,30 @@ fn mapped(words: &[u64]) -> u64
     sets::union_of(&words[MAPS_AT..WAYS_AT])
 }
 
+// The set x, and v where it stands in no entry of a table.
+fn with_absent(table: &[u8], x: u64, v: u8) -> u64
+    ensures { λ r. ⌜ r ≡ elim (isIn v (now (table .entry))) [ true ↦ x | false ↦ x ∪ only (v % 64) ] ⌝ }
+{
+    if stands(table, v) {
+        return x;
+    }
+    sets::with(x, v)
+}
+
+// The members of x that stand in no entry of a table.
+fn absent(table: &[u8], x: u64) -> u64
+    ensures { λ r. ⌜ r ≡ those (λ c. has x c && not (isIn c (now (table .entry)))) ⌝ }
+{
+    let mut found = 0u64;
+    let mut left = x;
+    while left != 0 {
+        let v = sets::lowest(left) as u8;
+        found = with_absent(table, found, v);
+        left = sets::rest(left);
+    }
+    found
+}
+
 // Those that some process may map both ways.
 fn ways_set(words: &[u64]) -> u64
     requires { ⌜ length (now words) ≡ 353 ⌝ }
@@ -179,4 +207,14 @@ pub fn in_use(words: &[u64; 353], descriptors: &[u8; 512], names: &[u8; 128], c:
         return true;
     }
     sets::member(mapped(words), c.0) & (c.0 < CONTAINERS)
+}
+
+// Of the set x, the containers that are not in use. A table is gone through only for those that nothing asked before keeps.
+pub fn unused_of(words: &[u64; 353], descriptors: &[u8; 512], names: &[u8; 128], x: u64) -> u64
+    ensures { λ r. ⌜ r ≡ those (λ c. has x c && not (used (mapsBefore words descriptors names .tables) c)) ⌝ }
+{
+    let running = (live(words) & ALL_PROCESSES) << 8;
+    let dead = (x & PROCESS_CONTAINERS) & !running;
+    let files = (x & FILES) & !mapped(words);
+    dead | absent(descriptors, absent(names, files))
 }

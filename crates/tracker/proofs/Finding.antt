@@ -1,24 +1,21 @@
--- What is released: of the containers whose use may have ended those that are not in use, one after the other.
-use Prim.Native.Nat.{ℕ, _%_, _^_, _<_}
+-- What is released: of the containers whose use may have ended those that are not in use.
+use Prim.Native.Nat.{ℕ, _^_, _<_}
 use native.Mathlib.Omega.{arith}
-use native.Mathlib.Nat.{mod-eq-of-lt}
-use native.Mathlib.Decide.{ℕ-discrete}
-use mathlib.Core.Path.{_≡_, refl, sym, ap, ap₂, _∙_}
-use mathlib.Core.Bool.{Bool, true, false, not, _&&_, _||_, or-false, and-comm, and-or-distrib-right}
+use mathlib.Core.Path.{_≡_, refl, sym, ap, _∙_}
+use mathlib.Core.Bool.{Bool, true, false, not, _&&_, _||_, and-comm, and-or-distrib-right}
 use mathlib.Core.List.{List}
 use lib.Dec.{eqb}
-use lib.ListN.{getD, length}
-use borrow.Author.Tests.{eqb-true, eq-eqb, ne-eqb}
-use Rattle.sets.specs.Sets.{has, only, without, _∪_, lowest}
-use Rattle.sets.proofs.Members.{union-has, only-has, none-has, those-has, those-lt, only-lt, set-ext, without-lt, without-at, without-other, turn-below, member}
+use lib.ListN.{getD}
+use borrow.Author.Tests.{eqb-true}
+use Rattle.sets.specs.Sets.{has, only, _∪_}
+use Rattle.sets.proofs.Members.{union-has, only-has, none-has, those-has, those-lt, only-lt, set-ext}
 use Rattle.flow.specs.Box.{Tables, isFile, closed}
 use Rattle.flow.specs.Links.{isFed, used}
 use Rattle.flow.proofs.Bools.{by, chosen-l, chosen-r}
 use Rattle.flow.proofs.TableLaws.{table-at, table-length, is-table}
-use Rattle.store.specs.Maps.{Maps, withItems, cleared, fileSet, containerSet}
+use Rattle.store.specs.Maps.{cleared, fileSet, containerSet}
 use Rattle.store.proofs.Files.{file-range, fileSet-file, fileSet-none, containerSet-low}
-use Rattle.store.proofs.Worklist.{cleared-none}
-use Rattle.tracker.specs.Plans.{freeSet, freeAt, unusedSet, goneOf}
+use Rattle.tracker.specs.Plans.{freeSet, freeAt, goneOf}
 
 -- ---- what no link leads into
 pub free-entry : (t : Tables) (c : ℕ) → c < 64 → containerSet (freeAt t c) ≡ freeSet t c
@@ -41,6 +38,10 @@ cleared-join l x y z h = is-table 64 _ (cleared (cleared l x) y) (table-length 6
     both false false n = refl
 
 -- ---- what is not in use
+-- the set of c where it is a container that is not in use
+unfoldable pub unusedSet : Tables → ℕ → ℕ
+unusedSet t c = elim (used t c) [ true ↦ 0 | false ↦ containerSet c ]
+
 module _ (t : Tables) where
   pub unused-none : (c : ℕ) → used t c ≡ true → 0 ≡ unusedSet t c
   unfolding unusedSet
@@ -86,40 +87,3 @@ module _ (t : Tables) where
   -- of two sets
   pub gone-both : (x y c : ℕ) → c < 64 → (has (goneOf t x) c || has (goneOf t y) c) ≡ has (goneOf t (x ∪ y)) c
   gone-both x y c h = rw (gone-has x c h, gone-has y c h, gone-has (x ∪ y) c h, union-has x y c) (sym (and-or-distrib-right (has x c) (has y c) (not (used t c))))
-
-  -- of a set less one member, and that member
-  gone-turn : (left v : ℕ) → v < 64 → has left v ≡ true → (c : ℕ) → c < 64 → (has (unusedSet t v) c || has (goneOf t (without left v)) c) ≡ has (goneOf t left) c
-  gone-turn left v l m c h = rw (unused-has v c l, gone-has (without left v) c h, gone-has left c h) (go (ℕ-discrete c v))
-    where
-      go : Dec (c ≡ v) → ((eqb v c && not (used t v)) || (has (without left v) c && not (used t c))) ≡ (has left c && not (used t c))
-      go (yes d) = rw (without-at left v c h d, eq-eqb v c (sym d), or-false, d, m)
-      go (no d) = rw (without-other left v c h d, ne-eqb v c (λ q. d (sym q)))
-
--- ---- the loop: what is left leads to the whole
-pub record Releasing (m₀ m : Maps) (held left : ℕ) : Type 0 where
-  pub small : left < 2 ^ 64
-  pub long : length (m .items) ≡ 64
-  pub tables : m .tables ≡ m₀ .tables
-  pub same : cleared (m .items) (goneOf (m₀ .tables) left) ≡ cleared (m₀ .items) (goneOf (m₀ .tables) held)
-
-pub releasing-start : (m : Maps) (held : ℕ) → held < 2 ^ 64 → length (m .items) ≡ 64 → Releasing m m held held
-releasing-start m held h l = record { small = h; long = l; tables = refl; same = refl }
-
-module _ {m₀ m : Maps} {held left : ℕ} (r : Releasing m₀ m held left) where
-  pub releasing-more : (left ≡ 0 → ⊥) → (v : ℕ) → v ≡ lowest left → (m′ : Maps) (later : ℕ) → m′ ≡ withItems m (cleared (m .items) (unusedSet (m .tables) v)) → later ≡ without left (v % 64) → Releasing m₀ m′ held later
-  unfolding cleared
-  releasing-more more v is m′ later e g =
-      let l : v < 64 = turn-below left (r .small) more v is in
-      rw (e, g, mod-eq-of-lt l, r .tables)
-      (record {
-        small = without-lt left v;
-        long = table-length 64 _;
-        tables = refl;
-        same = cleared-join (m .items) _ _ _ (gone-turn (m₀ .tables) left v l (member left (r .small) more v is)) ∙ r .same;
-      })
-
-  pub releasing-end : left ≡ 0 → m ≡ withItems m₀ (cleared (m₀ .items) (goneOf (m₀ .tables) held))
-  unfolding cleared
-  releasing-end e =
-      let none : m .items ≡ cleared (m .items) (goneOf (m₀ .tables) left) = cleared-none (m .items) (r .long) ∙ ap (cleared (m .items)) (sym (ap (goneOf (m₀ .tables)) e ∙ gone-none (m₀ .tables))) in
-      ap₂ (λ (t : Tables) (l : List ℕ). record { tables = t; items = l }) (r .tables) (none ∙ r .same)

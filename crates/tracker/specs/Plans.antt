@@ -8,7 +8,7 @@ use Rattle.flow.specs.Box.{closed, containerOf, Tables, feedersOf, descriptor, 
 use Rattle.flow.specs.Links.{reach, givenFrom, isFed, used}
 use Rattle.flow.specs.Calls.{Kind, start, openName, create, pipe, device, dup, close, read, write, truncate, mapRead, mapBoth, unmap, unlink, rename, link, fork, exit, label, Flow, still, gift, arrival, exchange, copy, clear, block, flowBy}
 use Rattle.store.specs.declared.Plan.{Plan}
-use Rattle.store.specs.Maps.{Maps, files, fileSet, containerSet, filesIn}
+use Rattle.store.specs.Maps.{Maps, files, fileSet, filesIn}
 use Rattle.tracker.specs.declared.Call.{Call}
 use Rattle.tracker.specs.declared.release.Lost.{Lost}
 
@@ -152,10 +152,6 @@ lostAt t q (some k) = lostBy t (q .process) (q .a) (q .b) (q .c) k
 -- the set that a Lost stands for
 abbrev pub lostSet : Lost → ℕ
 lostSet lost = fileSet (lost .entry) ∪ lost .held
-
--- the set of c where it is a container that is not in use
-unfoldable pub unusedSet : Tables → ℕ → ℕ
-unusedSet t c = elim (used t c) [ true ↦ 0 | false ↦ containerSet c ]
 
 -- of the set lost, those that are not in use
 unfoldable pub goneOf : Tables → ℕ → ℕ

@@ -2,6 +2,7 @@
 use crate::Call;
 use store::blocks::block_files;
 use store::cells::empty_container;
+use store::cells::empty_set;
 use store::limits::CLOSED;
 use store::limits::CONTAINERS;
 use store::limits::DEVICES;
@@ -12,6 +13,7 @@ use store::lookups::in_use;
 use store::lookups::is_fed;
 use store::lookups::maps;
 use store::lookups::name;
+use store::lookups::unused_of;
 use store::numbers::Container;
 use store::numbers::Descriptor;
 use store::numbers::Name;
@@ -22,7 +24,7 @@ ghost use mathlib.Core.List.{List};
 ghost use Rattle.flow.specs.Records.{kindOf};
 ghost use Rattle.store.specs.Maps.{view, withItems, cleared, fileSet, containerSet, mapsBefore, mapsAfter};
 ghost use Rattle.tracker.specs.Rows.{Passes};
-ghost use Rattle.tracker.specs.Plans.{heldBy, lostSet, lostAt, freeAt, emptiedAt, unusedSet, goneOf};
+ghost use Rattle.tracker.specs.Plans.{heldBy, lostSet, lostAt, freeAt, emptiedAt, goneOf};
 
 // The files and pipes that process p leads to or maps.
 fn held_by(words: &[u64; 353], descriptors: &[u8; 512], p: u8) -> u64
@@ -109,26 +111,14 @@ fn unused(words: &[u64; 353], descriptors: &[u8; 512], names: &[u8; 128], e: u8)
     e
 }
 
-// Empties container v, where it is not in use.
-fn release_one(words: &mut [u64; 353], descriptors: &[u8; 512], names: &[u8; 128], v: u8)
-    ensures { λ _. ⌜ (let m = mapsBefore words descriptors names in mapsAfter words descriptors names ≡ withItems m (cleared (m .items) (unusedSet (m .tables) v))) ⌝ }
-{
-    sets::lengths(words, names);
-    if !in_use(words, descriptors, names, Container(v)) {
-        empty_container(words, v);
-    }
-}
-
 // Empties each container of the set held that is not in use.
-fn release_each(words: &mut [u64; 353], descriptors: &[u8; 512], names: &[u8; 128], held: u64)
+fn release_held(words: &mut [u64; 353], descriptors: &[u8; 512], names: &[u8; 128], held: u64)
     ensures { λ _. ⌜ (let m = mapsBefore words descriptors names in mapsAfter words descriptors names ≡ withItems m (cleared (m .items) (goneOf (m .tables) held))) ⌝ }
 {
     sets::lengths(words, names);
-    let mut left = held;
-    while left != 0 {
-        let v = sets::lowest(left) as u8;
-        release_one(words, descriptors, names, v);
-        left = sets::without(left, v);
+    if held != 0 {
+        let gone = unused_of(words, descriptors, names, held);
+        empty_set(words, gone);
     }
 }
 
@@ -138,5 +128,5 @@ pub fn release(words: &mut [u64; 353], descriptors: &[u8; 512], names: &[u8; 128
 {
     let c = unused(words, descriptors, names, lost.entry);
     empty_container(words, c);
-    release_each(words, descriptors, names, lost.held);
+    release_held(words, descriptors, names, lost.held);
 }

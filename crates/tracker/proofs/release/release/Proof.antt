@@ -12,7 +12,7 @@ returns c =
     let u = e .before .before in
     let a = u .before .before .args in
     let m = view (a .words .now) (a .descriptors .now) (a .names .now) in
-    c .release-each .ensures ∙ rw (e .empty-container .ensures (a .descriptors .now) (a .names .now), u .unused .ensures)
+    c .release-held .ensures ∙ rw (e .empty-container .ensures (a .descriptors .now) (a .names .now), u .unused .ensures)
     (ap (withItems m) (cleared-join (m .items) _ _ _ (gone-both (m .tables) (fileSet (a .lost .entry)) (a .lost .held))))
 
 pub release-spec : {M : Type 1} → statement M
