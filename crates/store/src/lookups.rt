@@ -184,7 +184,7 @@ pub fn is_fed(words: &[u64; 353], c: Container) -> bool
     ensures { λ r. ⌜ ((d n : List ℕ) → r ≡ isFed (view (now (words .entry)) d n .tables) (c .0)) ⌝ }
 {
     let cells: &[u64] = words;
-    if !holds(ways_set(cells), c.0) {
+    if !sets::member(ways_set(cells), c.0) {
         return false;
     }
     holds(fed_set(cells), c.0)
