@@ -2,10 +2,10 @@
 use Prim.Native.Nat.{ℕ, suc, _+_, _-_, _*_, _/_, _%_, _^_, _≤_, _<_}
 use native.Mathlib.Omega.{arith}
 use native.Mathlib.Decide.{decLt}
-use native.Mathlib.Nat.{add-mul, suc-mul, one-mul, mod-lt, mod-eq-of-lt}
-use mathlib.Core.Path.{_≡_, refl, sym, ap, subst, _∙_}
+use native.Mathlib.Nat.{add-mul, mod-lt, mod-eq-of-lt}
+use mathlib.Core.Path.{_≡_, sym, ap, subst, _∙_}
 use lib.Arith.{digits-lt}
-use lib.Pow.{pow-pos, pow-add, pow-lt, shr-lt, split, high, low, shr-shr, field, mod-mod-pow}
+use lib.Pow.{pow-pos, pow-add, shr-lt, split, high, low, shr-shr, field, mod-mod-pow}
 use Rattle.store.specs.Maps.{byteOf, putByte}
 
 pub byte-lt : (w j : ℕ) → byteOf w j < 256
@@ -65,7 +65,7 @@ module _ (w j n : ℕ) (l : n < 256) where
       go (yes h) = below-put (j - suc i) i (omega arith)
       go (no h) = let s : suc ((i - suc j) + j) ≡ i = omega arith in ap (byteOf (putByte w j n)) (sym s) ∙ above-put (i - suc j) ∙ ap (byteOf w) s
 
--- ---- a byte made 0, one more and one less
+-- ---- a byte taken out, and another put in its place
 module _ (w j : ℕ) where
   abbrev t : ℕ
   t = 2 ^ (8 * j)
@@ -91,21 +91,8 @@ module _ (w j : ℕ) where
   pub byte-below : byteOf w j * t ≤ w
   byte-below = omega (arith, apart)
 
-  pub put-none : w - byteOf w j * t ≡ putByte w j 0
-  put-none = omega (arith, apart, put-is 0)
-
-  pub put-more : w + t ≡ putByte w j (suc (byteOf w j))
-  put-more = let d : suc (byteOf w j) * t ≡ byteOf w j * t + t = suc-mul (byteOf w j) t in omega (arith, apart, put-is (suc (byteOf w j)), d)
-
-  module _ (h : 0 < byteOf w j) where
-    one : byteOf w j * t ≡ (byteOf w j - 1) * t + t
-    one = let d : byteOf w j ≡ suc (byteOf w j - 1) = omega arith in ap (λ (z : ℕ). z * t) d ∙ suc-mul (byteOf w j - 1) t
-
-    pub unit-below : t ≤ w
-    unit-below = omega (arith, apart, one)
-
-    pub put-less : w - t ≡ putByte w j (byteOf w j - 1)
-    put-less = omega (arith, apart, put-is (byteOf w j - 1), one)
+  pub put-from : (n : ℕ) → w - byteOf w j * t + n * t ≡ putByte w j n
+  put-from n = omega (arith, apart, put-is n)
 
   -- what it is made fits the word
   pub put-lt : (n : ℕ) → n < 256 → j < 8 → w < 2 ^ 64 → putByte w j n < 2 ^ 64
@@ -120,8 +107,8 @@ module _ (w j : ℕ) where
       subst (λ (z : ℕ). (w / t - w / t % 256 + n) * t + w % t < z) f (digits-lt r (mod-lt w (pow-pos (8 * j))))
 
   -- as the machine's shifts have it
-  pub shifted-unit : j < 8 → 1 * t % 18446744073709551616 ≡ t
-  shifted-unit h = let l : t < 2 ^ 64 = pow-lt (let m : 8 * j < 64 = omega arith in m) in ap (λ (z : ℕ). z % 2 ^ 64) (one-mul t) ∙ mod-eq-of-lt l
-
   pub shifted-byte : w < 2 ^ 64 → byteOf w j * t % 18446744073709551616 ≡ byteOf w j * t
   shifted-byte h = mod-eq-of-lt (let l : byteOf w j * t < 2 ^ 64 = omega (arith, byte-below) in l)
+
+  pub shifted-new : (n : ℕ) → n < 256 → j < 8 → w < 2 ^ 64 → n * t % 18446744073709551616 ≡ n * t
+  shifted-new n l h b = mod-eq-of-lt (let k : n * t < 2 ^ 64 = omega (arith, put-is n, put-lt n l h b) in k)

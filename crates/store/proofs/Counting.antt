@@ -1,17 +1,16 @@
 -- Mappings in the words: a row of counts by its sets and its bytes.
-use Prim.Native.Nat.{ℕ, zero, suc, _+_, _-_, _*_, _/_, _%_, _^_, _≤_, _<_}
+use Prim.Native.Nat.{ℕ, zero, suc, _+_, _-_, _/_, _%_, _^_, _≤_, _<_}
 use native.Mathlib.Omega.{arith}
 use native.Mathlib.Decide.{ℕ-discrete}
 use mathlib.Core.Path.{_≡_, refl, sym, ap, ap₂, _∙_}
 use mathlib.Core.Bool.{Bool, true, false, not, _&&_, _||_, or-true}
-use mathlib.Core.List.{List, []}
+use mathlib.Core.List.{List}
 use lib.Dec.{ltb, eqb}
 use lib.ListN.{length, getD, set, length-set}
 use lib.Seq.{getD-set-same, getD-set-other, ext-getD}
-use borrow.Author.Tests.{lt-ltb, ltb-false, eq-eqb, ne-eqb, eqb-true, eqb-false}
+use borrow.Author.Tests.{lt-ltb, ltb-false, eq-eqb, ne-eqb}
 use Rattle.sets.specs.Sets.{has, _∪_, _∩_}
 use Rattle.sets.proofs.Members.{union-has, inter-has, inter-lt, none-has, set-ext, union-lt}
-use Rattle.flow.specs.Lists.{table}
 use Rattle.flow.specs.Box.{noMappings, mappedIn}
 use Rattle.flow.proofs.Bools.{by, chosen-l, chosen-r}
 use Rattle.flow.proofs.TableLaws.{table-at, table-length}

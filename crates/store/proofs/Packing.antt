@@ -3,7 +3,7 @@ use Prim.Native.Nat.{ℕ, zero, suc, _+_, _*_, _/_, _%_, _^_, _≤_, _<_}
 use native.Mathlib.Omega.{arith}
 use native.Mathlib.Decide.{ℕ-discrete}
 use mathlib.Core.Path.{_≡_, refl, sym, ap, ap₂, _∙_}
-use mathlib.Core.Bool.{Bool, true, false, _&&_, _||_, or-true}
+use mathlib.Core.Bool.{false, _&&_, _||_, or-true}
 use mathlib.Core.List.{List, []}
 use lib.Dec.{ltb}
 use lib.ListN.{length, getD}
@@ -16,7 +16,7 @@ use Rattle.flow.specs.Lists.{table}
 use Rattle.flow.specs.Box.{mappedIn}
 use Rattle.flow.proofs.Bools.{by}
 use Rattle.flow.proofs.TableLaws.{table-at, table-length}
-use Rattle.flow.proofs.Counts.{mapped-has, Counts}
+use Rattle.flow.proofs.Counts.{mapped-has}
 use Rattle.flow.proofs.Rows.{Rows}
 use Rattle.store.specs.Maps.{part, byteOf, putByte, countBy, mapsIn, waysIn, readsAt, bothsAt, readRow, bothRow}
 use Rattle.store.proofs.Parts.{part-at}

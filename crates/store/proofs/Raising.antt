@@ -1,10 +1,9 @@
--- One count of the words: turned, asked whether it is 0 or full, and that of numbers past the tables.
-use Prim.Native.Nat.{ℕ, suc, _+_, _%_, _≤_, _<_}
+-- One count of the words turned, and that of numbers past the tables.
+use Prim.Native.Nat.{ℕ, _≤_, _<_}
 use native.Mathlib.Omega.{arith}
-use native.Mathlib.Decide.{ℕ-discrete}
-use mathlib.Core.Path.{_≡_, refl, sym, ap, ap₂, _∙_}
-use mathlib.Core.Bool.{Bool, true, false, not, _&&_, _||_}
-use mathlib.Core.List.{List, []}
+use mathlib.Core.Path.{_≡_, sym, ap, _∙_}
+use mathlib.Core.Bool.{false, _&&_}
+use mathlib.Core.List.{List}
 use lib.Dec.{ltb, leb, eqb}
 use lib.ListN.{length, getD, set, List·getD-eq-default}
 use borrow.Author.Tests.{ltb-true, ltb-false, leb-true, le-leb, eq-eqb, ne-eqb, eqb-true}
@@ -12,12 +11,10 @@ use Rattle.sets.specs.Sets.{has}
 use Rattle.flow.specs.Box.{Sort, toRead, bothWays, Tables, rowOf, mappings}
 use Rattle.flow.specs.Calls.{withRow, withRows, sortOf}
 use Rattle.flow.proofs.Bools.{same, by, and-false-r, chosen-l, chosen-r}
-use Rattle.flow.proofs.Mapping.{Sized}
 use Rattle.store.specs.declared.counts.Cells.{Cells}
-use Rattle.store.specs.Maps.{view, withTables, byteOf, countBy, mapsIn, waysIn, readsAt, bothsAt, readRow, bothRow}
+use Rattle.store.specs.Maps.{view, withTables, readsAt, bothsAt, readRow, bothRow}
 use Rattle.store.specs.Pairs.{cellsIn, stored, readIn, bothIn, Turned}
-use Rattle.store.proofs.Bytes.{byte-lt}
-use Rattle.store.proofs.Counting.{least-zero, least-more, least-above, row-length}
+use Rattle.store.proofs.Counting.{row-length}
 use Rattle.store.proofs.Writes.{rowOfWords, row-viewed, row-past, sized-view}
 use Rattle.store.proofs.Storing.{set-own, read-alone, both-alone, read-count, both-count, turned-view}
 
@@ -74,44 +71,7 @@ module _ (w d n : List ℕ) (long : length w ≡ 353) (p : ℕ) (hp : p < 16) (c
       ∙ ap (withTables (view w d n))
       (ap (λ (k : List ℕ). withRows tables p k l) (ap (set (rowOf tables toRead p) c) (sym (read-count w d n long p hp c hc)) ∙ as-was toRead) ∙ both-alone tables (sized-view w d n) p hp l)
 
--- ---- a count by its byte: whether it is 0, and whether it is full
-some-by : (a b : Bool) (n : ℕ) → (a && (not b || not (eqb n 0))) ≡ not (eqb (countBy a b n) 0)
-unfolding countBy
-some-by true true n = refl
-some-by true false n = sym (ap not (ne-eqb (countBy true false n) 0 (λ e. let l : 0 < countBy true false n = least-above n in let z : ⊥ = omega arith in z)))
-some-by false b n = refl
-
-limit-is : (n : ℕ) → n < 256 → eqb n 255 ≡ leb 255 n
+-- ---- the limit, of a byte
+pub limit-is : (n : ℕ) → n < 256 → eqb n 255 ≡ leb 255 n
 limit-is n h =
     same (eqb n 255) (leb 255 n) (λ e. le-leb 255 n (let q : n ≡ 255 = eqb-true n 255 e in omega arith)) (λ e. eq-eqb n 255 (let q : 255 ≤ n = leb-true 255 n e in omega arith))
-
-full-by : (a b : Bool) (n : ℕ) → n < 256 → (a && eqb n 255) ≡ leb 255 (countBy a b n)
-unfolding countBy
-full-by true true n h = limit-is n h
-full-by true false n h = go (ℕ-discrete n 0)
-  where
-    go : Dec (n ≡ 0) → eqb n 255 ≡ leb 255 (countBy true false n)
-    go (yes e) = rw (least-zero n e) (ne-eqb n 255 (λ f. let z : ⊥ = omega arith in z))
-    go (no e) = rw (least-more n e) (limit-is n h)
-full-by false b n h = refl
-
-module _ (x : Cells) (c : ℕ) where
-  pub read-some : (has (x .maps) c && (not (has (x .ways) c) || not (eqb (byteOf (x .reads) (c % 8)) 0))) ≡ not (eqb (readIn x c) 0)
-  unfolding readIn
-  read-some = some-by (has (x .maps) c) (has (x .ways) c) _
-
-  pub both-some : (has (x .maps) c && has (x .ways) c) ≡ not (eqb (bothIn x c) 0)
-  unfolding bothIn
-  both-some = and-true (has (x .maps) c && has (x .ways) c) ∙ some-by (has (x .maps) c && has (x .ways) c) false _
-    where
-      and-true : (a : Bool) → a ≡ (a && true)
-      and-true true = refl
-      and-true false = refl
-
-  pub read-full : (has (x .maps) c && eqb (byteOf (x .reads) (c % 8)) 255) ≡ leb 255 (readIn x c)
-  unfolding readIn
-  read-full = full-by (has (x .maps) c) (has (x .ways) c) _ (byte-lt (x .reads) (c % 8))
-
-  pub both-full : ((has (x .maps) c && has (x .ways) c) && eqb (byteOf (x .boths) (c % 8)) 255) ≡ leb 255 (bothIn x c)
-  unfolding bothIn
-  both-full = full-by (has (x .maps) c && has (x .ways) c) false _ (byte-lt (x .boths) (c % 8))

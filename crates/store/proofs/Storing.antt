@@ -1,5 +1,5 @@
 -- Mappings raised, lowered, copied and ended in the words, as the maps have it.
-use Prim.Native.Nat.{ℕ, zero, suc, _+_, _-_, _*_, _/_, _%_, _≤_, _<_}
+use Prim.Native.Nat.{ℕ, zero, suc, _+_, _-_, _/_, _%_, _≤_, _<_}
 use native.Mathlib.Omega.{arith}
 use native.Mathlib.Numerals.{add-one}
 use native.Mathlib.Decide.{ℕ-discrete}
@@ -12,16 +12,16 @@ use lib.ListN.{length, getD, set, length-set}
 use lib.Seq.{getD-set-same, getD-set-other, paste}
 use Rattle.sets.specs.Sets.{has, _∩_}
 use Rattle.sets.proofs.Members.{inter-has, none-has}
-use Rattle.flow.specs.Box.{Sort, toRead, bothWays, Tables, noMappings, rowOf, mappings}
+use Rattle.flow.specs.Box.{toRead, bothWays, Tables, noMappings, rowOf, mappings}
 use Rattle.flow.specs.Calls.{withRow, withRows}
 use Rattle.flow.proofs.Mapping.{Sized}
 use Rattle.store.specs.declared.counts.Cells.{Cells}
 use Rattle.store.specs.Maps.{part, view, withTables, byteOf, countBy, rowIn, mapsIn, waysIn, readsAt, bothsAt, readRow, bothRow}
 use Rattle.store.specs.Pairs.{cellsIn, stored, readIn, bothIn, Turned}
 use Rattle.store.proofs.Parts.{part-at, part-length}
-use Rattle.store.proofs.BlockLaws.{laid, laid-none, laid-more, laid-long, laid-other, laid-at}
+use Rattle.store.proofs.BlockLaws.{laid, laid-none, laid-more, laid-other, laid-at}
 use Rattle.store.proofs.Counting.{row-at, row-none, row-words, row-changed}
-use Rattle.store.proofs.Writes.{Mine, maps, ways, reads, boths, Outside, outside-none, outside-more, outside-set, rows-stored, rowOfWords, row-viewed, sized-view}
+use Rattle.store.proofs.Writes.{Mine, maps, ways, reads, boths, Outside, outside-none, outside-more, outside-set, rows-stored, rowOfWords, row-viewed}
 
 -- ---- an element set to what it is
 pub set-own : {A : Type 0} (l : List A) (i : ℕ) (d : A) → i < length l → set l i (getD l i d) ≡ l

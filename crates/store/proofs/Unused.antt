@@ -1,21 +1,20 @@
 -- Of a set of containers, those that are not in use.
-use Prim.Native.Nat.{ℕ, _+_, _-_, _*_, _/_, _%_, _^_, _≤_, _<_}
+use Prim.Native.Nat.{ℕ, _-_, _*_, _/_, _%_, _^_, _≤_, _<_}
 use native.Mathlib.Omega.{arith}
 use native.Mathlib.Decide.{ℕ-discrete}
 use native.Mathlib.Nat.{mod-eq-of-lt}
 use mathlib.Core.Path.{_≡_, refl, sym, ap, ap₂, _∙_}
 use mathlib.Core.Bool.{Bool, true, false, not, _&&_, _||_, and-comm}
 use mathlib.Core.List.{List}
-use lib.Dec.{eqb, ltb, leb}
 use lib.ListN.{length, getD}
 use lib.Bits.{and-le-r}
-use borrow.Author.Tests.{eq-eqb, ne-eqb, ltb-true, ltb-false, lt-ltb, le-ltb, lt-leb, leb-false}
+use borrow.Author.Tests.{eq-eqb, ne-eqb, ltb-true, lt-leb}
 use Rattle.sets.specs.Sets.{has, those, thoseFrom, bit, only, without, lowest, _∪_, _∩_, unionOf}
 use Rattle.sets.proofs.Members.{union-has, union-lt, inter-has, inter-lt, less-has, none-has, only-has, only-lt, those-has, those-lt, set-ext, without-lt, without-at, without-other, member, turn-below, itself}
 use Rattle.flow.specs.Lists.{isIn}
 use Rattle.flow.specs.Box.{Tables, isDevice, isProcess, isFile, containerOf}
 use Rattle.flow.specs.Links.{mapped, used}
-use Rattle.flow.proofs.Bools.{by, and-l, no-both}
+use Rattle.flow.proofs.Bools.{by}
 use Rattle.flow.proofs.Reach.{process-range}
 use Rattle.flow.proofs.Use.{used-device, used-live, used-file, is-file}
 use Rattle.store.specs.Maps.{part, view, files}

@@ -13,7 +13,7 @@ use borrow.Author.Tests.{lt-ltb, le-ltb}
 use lib.ListN.{length, getD, take}
 use lib.Seq.{take-length}
 use mir.Val.{boolByte}
-use Rattle.sets.specs.Sets.{has, _∪_, _∩_, unionOf}
+use Rattle.sets.specs.Sets.{has, _∩_, unionOf}
 use Rattle.sets.proofs.Members.{union-has, inter-has, none-has, past-has, eqb-sym}
 use Rattle.sets.proofs.Unions.{all-more, unionOf-more}
 use Rattle.flow.specs.Lists.{someBelow, isIn}

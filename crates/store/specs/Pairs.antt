@@ -1,7 +1,7 @@
 -- Mappings of one process of one container, as the words have them: two sets and two bytes (02, Paper 4).
 use Prim.Native.Nat.{ℕ, _+_, _/_, _%_, _<_}
 use mathlib.Core.Path.{_≡_}
-use mathlib.Core.Bool.{Bool, false, _&&_}
+use mathlib.Core.Bool.{false, _&&_}
 use mathlib.Core.List.{List}
 use lib.ListN.{getD, set}
 use Rattle.sets.specs.Sets.{has}

@@ -13,18 +13,18 @@ use crate::limits::WAYS_AT;
 use crate::numbers::Container;
 use crate::numbers::Process;
 use crate::numbers::Sort;
-ghost use Prim.Native.Nat.{ℕ, suc, _+_, _-_, _*_, _<_};
+ghost use Prim.Native.Nat.{ℕ, _+_, _<_};
 ghost use mathlib.Core.Path.{_≡_};
-ghost use mathlib.Core.Bool.{true, false, not};
+ghost use mathlib.Core.Bool.{not};
 ghost use mathlib.Core.Logic.{_⊎_};
 ghost use mathlib.Core.List.{List, []};
 ghost use lib.Dec.{eqb, leb};
-ghost use lib.ListN.{length};
+ghost use lib.ListN.{length, set};
 ghost use lib.Seq.{paste};
 ghost use Rattle.flow.specs.Box.{mappingLimit, toRead, bothWays, mappings, rowOf, noMappings};
-ghost use Rattle.flow.specs.Calls.{sortOf, raised, lowered, withRows};
-ghost use Rattle.store.specs.Maps.{part, view, withTables, byteOf, putByte, countBy};
-ghost use Rattle.store.specs.Pairs.{cellsIn, readIn, bothIn, Bytes, Turned, stored};
+ghost use Rattle.flow.specs.Calls.{sortOf, raised, lowered, withRow, withRows};
+ghost use Rattle.store.specs.Maps.{part, view, withTables, byteOf, putByte};
+ghost use Rattle.store.specs.Pairs.{cellsIn, readIn, bothIn, Turned, stored};
 
 // The words that have the counts of a process and a container: its two sets, and its bytes.
 pub struct Cells {
@@ -42,26 +42,12 @@ fn byte(w: u64, j: u8) -> u8
     ((w >> (8 * j)) % 256) as u8
 }
 
-// The word with that byte made 0, one more, one less.
-fn cleared(w: u64, j: u8) -> u64
+// The word with that byte made n.
+fn put(w: u64, j: u8, n: u8) -> u64
     requires { ⌜ j < 8 ⌝ }
-    ensures { λ r. ⌜ r ≡ putByte w j 0 ⌝ }
+    ensures { λ r. ⌜ r ≡ putByte w j n ⌝ }
 {
-    w - (((w >> (8 * j)) % 256) << (8 * j))
-}
-
-fn one_more(w: u64, j: u8) -> u64
-    requires { ⌜ (j < 8) × (byteOf w j < 255) ⌝ }
-    ensures { λ r. ⌜ r ≡ putByte w j (suc (byteOf w j)) ⌝ }
-{
-    w + (1 << (8 * j))
-}
-
-fn one_less(w: u64, j: u8) -> u64
-    requires { ⌜ (j < 8) × (0 < byteOf w j) ⌝ }
-    ensures { λ r. ⌜ r ≡ putByte w j (byteOf w j - 1) ⌝ }
-{
-    w - (1 << (8 * j))
+    w - (((w >> (8 * j)) % 256) << (8 * j)) + ((n as u64) << (8 * j))
 }
 
 // The cells of process p and container c.
@@ -92,100 +78,54 @@ fn put_cells(words: &mut [u64], p: u8, c: u8, x: Cells)
     words[BOTHS_AT + k] = x.boths;
 }
 
-// The word with the byte of number j made 1, and with one of 0 made 1.
-fn one(w: u64, j: u8) -> u64
-    requires { ⌜ j < 8 ⌝ }
-    ensures { λ r. ⌜ Bytes w r j 1 ⌝ }
+// How many mappings for reading they count.
+fn read_count(x: Cells, c: u8) -> u8
+    requires { ⌜ c < 64 ⌝ }
+    ensures { λ r. ⌜ r ≡ readIn x c ⌝ }
 {
-    one_more(cleared(w, j), j)
-}
-
-fn least(w: u64, j: u8) -> u64
-    requires { ⌜ j < 8 ⌝ }
-    ensures { λ r. ⌜ Bytes w r j (countBy true false (byteOf w j)) ⌝ }
-{
-    if byte(w, j) == 0 {
-        return one_more(w, j);
+    if !sets::member(x.maps, c) {
+        return 0;
     }
-    w
+    let n = byte(x.reads, c % 8);
+    if (n == 0) & !sets::member(x.ways, c) {
+        return 1;
+    }
+    n
 }
 
-// One mapping for reading more.
-fn more_read(x: Cells, c: u8) -> Cells
-    requires { ⌜ (c < 64) × (readIn x c < 255) ⌝ }
-    ensures { λ r. ⌜ Turned x r c (suc (readIn x c)) (bothIn x c) ⌝ }
+// How many both ways.
+fn both_count(x: Cells, c: u8) -> u8
+    requires { ⌜ c < 64 ⌝ }
+    ensures { λ r. ⌜ r ≡ bothIn x c ⌝ }
+{
+    if !sets::member(x.maps & x.ways, c) {
+        return 0;
+    }
+    let n = byte(x.boths, c % 8);
+    if n == 0 {
+        return 1;
+    }
+    n
+}
+
+// The cells with n mappings for reading.
+fn with_reads(x: Cells, c: u8, n: u8) -> Cells
+    requires { ⌜ c < 64 ⌝ }
+    ensures { λ r. ⌜ Turned x r c n (bothIn x c) ⌝ }
 {
     let maps = x.maps;
     let ways = x.ways;
     let reads = x.reads;
     let boths = x.boths;
-    if !sets::member(maps, c) {
-        return Cells {
-            maps: sets::with(maps, c),
-            ways: sets::without(ways, c),
-            reads: one(reads, c % 8),
-            boths,
-        };
-    }
-    if sets::member(ways, c) {
+    if sets::member(maps & ways, c) {
         return Cells {
             maps,
             ways,
-            reads: one_more(reads, c % 8),
+            reads: put(reads, c % 8, n),
             boths,
         };
     }
-    Cells {
-        maps,
-        ways,
-        reads: one_more(least(reads, c % 8), c % 8),
-        boths,
-    }
-}
-
-// One both ways more.
-fn more_both(x: Cells, c: u8) -> Cells
-    requires { ⌜ (c < 64) × (bothIn x c < 255) ⌝ }
-    ensures { λ r. ⌜ Turned x r c (readIn x c) (suc (bothIn x c)) ⌝ }
-{
-    let maps = x.maps;
-    let ways = x.ways;
-    let reads = x.reads;
-    let boths = x.boths;
-    if !sets::member(maps, c) {
-        return Cells {
-            maps: sets::with(maps, c),
-            ways: sets::with(ways, c),
-            reads: cleared(reads, c % 8),
-            boths: one(boths, c % 8),
-        };
-    }
-    if !sets::member(ways, c) {
-        return Cells {
-            maps,
-            ways: sets::with(ways, c),
-            reads: least(reads, c % 8),
-            boths: one(boths, c % 8),
-        };
-    }
-    Cells {
-        maps,
-        ways,
-        reads,
-        boths: one_more(least(boths, c % 8), c % 8),
-    }
-}
-
-// One for reading less.
-fn less_read(x: Cells, c: u8) -> Cells
-    requires { ⌜ (c < 64) × (0 < readIn x c) ⌝ }
-    ensures { λ r. ⌜ Turned x r c (readIn x c - 1) (bothIn x c) ⌝ }
-{
-    let maps = x.maps;
-    let ways = x.ways;
-    let reads = x.reads;
-    let boths = x.boths;
-    if !sets::member(ways, c) & (byte(reads, c % 8) < 2) {
+    if n == 0 {
         return Cells {
             maps: sets::without(maps, c),
             ways,
@@ -194,31 +134,31 @@ fn less_read(x: Cells, c: u8) -> Cells
         };
     }
     Cells {
-        maps,
-        ways,
-        reads: one_less(reads, c % 8),
+        maps: sets::with(maps, c),
+        ways: sets::without(ways, c),
+        reads: put(reads, c % 8, n),
         boths,
     }
 }
 
-// One both ways less.
-fn less_both(x: Cells, c: u8) -> Cells
-    requires { ⌜ (c < 64) × (0 < bothIn x c) ⌝ }
-    ensures { λ r. ⌜ Turned x r c (readIn x c) (bothIn x c - 1) ⌝ }
+// The cells with n mappings both ways, where those for reading are r.
+fn with_boths(x: Cells, c: u8, r: u8, n: u8) -> Cells
+    requires { ⌜ (c < 64) × (r ≡ readIn x c) ⌝ }
+    ensures { λ y. ⌜ Turned x y c r n ⌝ }
 {
     let maps = x.maps;
     let ways = x.ways;
     let reads = x.reads;
     let boths = x.boths;
-    if 1 < byte(boths, c % 8) {
+    if n != 0 {
         return Cells {
-            maps,
-            ways,
-            reads,
-            boths: one_less(boths, c % 8),
+            maps: sets::with(maps, c),
+            ways: sets::with(ways, c),
+            reads: put(reads, c % 8, r),
+            boths: put(boths, c % 8, n),
         };
     }
-    if byte(reads, c % 8) == 0 {
+    if r == 0 {
         return Cells {
             maps: sets::without(maps, c),
             ways,
@@ -234,35 +174,50 @@ fn less_both(x: Cells, c: u8) -> Cells
     }
 }
 
-// Whether process p has a mapping of a sort of container c.
-pub fn maps(words: &[u64; 353], x: Sort, p: Process, c: Container) -> bool
-    ensures { λ r. ⌜ ((d n : List ℕ) → r ≡ not (eqb (mappings (view (now (words .entry)) d n .tables) (sortOf (x .0)) (p .0) (c .0)) 0)) ⌝ }
+// How many mappings of a sort process p has of container c.
+fn count(words: &[u64; 353], x: Sort, p: Process, c: Container) -> u8
+    ensures { λ r. ⌜ ((d n : List ℕ) → r ≡ mappings (view (now (words .entry)) d n .tables) (sortOf (x .0)) (p .0) (c .0)) ⌝ }
 {
     if !((p.0 < PROCESSES) & (c.0 < CONTAINERS)) {
-        return false;
+        return 0;
     }
     let cells = cells_of(words, p.0, c.0);
     if x.0 == TO_READ {
-        return sets::member(cells.maps, c.0)
-            & (!sets::member(cells.ways, c.0) | (byte(cells.reads, c.0 % 8) != 0));
+        return read_count(cells, c.0);
     }
-    sets::member(cells.maps, c.0) & sets::member(cells.ways, c.0)
+    both_count(cells, c.0)
+}
+
+// Whether it has one.
+pub fn maps(words: &[u64; 353], x: Sort, p: Process, c: Container) -> bool
+    ensures { λ r. ⌜ ((d n : List ℕ) → r ≡ not (eqb (mappings (view (now (words .entry)) d n .tables) (sortOf (x .0)) (p .0) (c .0)) 0)) ⌝ }
+{
+    count(words, x, p, c) != 0
 }
 
 // Whether it has 255 of them.
 pub fn is_full(words: &[u64; 353], x: Sort, p: Process, c: Container) -> bool
     ensures { λ r. ⌜ ((d n : List ℕ) → r ≡ leb mappingLimit (mappings (view (now (words .entry)) d n .tables) (sortOf (x .0)) (p .0) (c .0))) ⌝ }
 {
-    if !((p.0 < PROCESSES) & (c.0 < CONTAINERS)) {
-        return false;
-    }
-    let cells = cells_of(words, p.0, c.0);
+    count(words, x, p, c) == FULL
+}
+
+// Stores a count of process p and container c: n of the sort.
+fn recount(words: &mut [u64; 353], x: Sort, p: Process, c: Container, n: u8)
+    requires { ⌜ (p .0 < 16) × (c .0 < 64) ⌝ }
+    ensures { λ _. ⌜ ((d m : List ℕ) → let v = view (now (words .entry)) d m in view (now (words .exit)) d m ≡ withTables v (withRow (v .tables) (sortOf (x .0)) (p .0) (set (rowOf (v .tables) (sortOf (x .0)) (p .0)) (c .0) n))) ⌝ }
+{
+    let old = cells_of(words, p.0, c.0);
     if x.0 == TO_READ {
-        return sets::member(cells.maps, c.0) & (byte(cells.reads, c.0 % 8) == FULL);
+        put_cells(words, p.0, c.0, with_reads(old, c.0, n));
+    } else {
+        put_cells(
+            words,
+            p.0,
+            c.0,
+            with_boths(old, c.0, read_count(old, c.0), n),
+        );
     }
-    sets::member(cells.maps, c.0)
-        & sets::member(cells.ways, c.0)
-        & (byte(cells.boths, c.0 % 8) == FULL)
 }
 
 // One mapping of a sort more.
@@ -270,12 +225,8 @@ pub fn raise(words: &mut [u64; 353], x: Sort, p: Process, c: Container)
     requires { ⌜ (p .0 < 16) × (c .0 < 64) × (mappings (view (now words) [] [] .tables) (sortOf (x .0)) (p .0) (c .0) < 255) ⌝ }
     ensures { λ _. ⌜ ((d n : List ℕ) → let m = view (now (words .entry)) d n in view (now (words .exit)) d n ≡ withTables m (raised (m .tables) (sortOf (x .0)) (p .0) (c .0))) ⌝ }
 {
-    let old = cells_of(words, p.0, c.0);
-    if x.0 == TO_READ {
-        put_cells(words, p.0, c.0, more_read(old, c.0));
-    } else {
-        put_cells(words, p.0, c.0, more_both(old, c.0));
-    }
+    let n = count(words, x, p, c);
+    recount(words, x, p, c, n + 1);
 }
 
 // One less.
@@ -283,12 +234,8 @@ pub fn lower(words: &mut [u64; 353], x: Sort, p: Process, c: Container)
     requires { ⌜ (p .0 < 16) × (c .0 < 64) × (0 < mappings (view (now words) [] [] .tables) (sortOf (x .0)) (p .0) (c .0)) ⌝ }
     ensures { λ _. ⌜ ((d n : List ℕ) → let m = view (now (words .entry)) d n in view (now (words .exit)) d n ≡ withTables m (lowered (m .tables) (sortOf (x .0)) (p .0) (c .0))) ⌝ }
 {
-    let old = cells_of(words, p.0, c.0);
-    if x.0 == TO_READ {
-        put_cells(words, p.0, c.0, less_read(old, c.0));
-    } else {
-        put_cells(words, p.0, c.0, less_both(old, c.0));
-    }
+    let n = count(words, x, p, c);
+    recount(words, x, p, c, n - 1);
 }
 
 // Makes the eight words of counts from `at` on those from `source` on.

@@ -1,7 +1,7 @@
 -- `cells_of` reads four words.
-use Prim.Native.Nat.{ℕ, _+_, _*_, _/_}
+use Prim.Native.Nat.{_*_, _/_}
 use native.Mathlib.Nat.{add-assoc}
-use mathlib.Core.Path.{_≡_, refl}
+use mathlib.Core.Path.{refl}
 use Rattle.store.specs.Maps.{mapsIn, waysIn}
 use Rattle.store.specs.Pairs.{cellsIn}
 use borrow.Author.Needs.{needs}

@@ -1,6 +1,4 @@
 -- `clear_rows` empties the set of what the process maps.
-use lib.ListN.{length}
-use mathlib.Core.Path.{_≡_}
 use Rattle.store.proofs.Storing.{rows-cleared}
 use borrow.Author.Needs.{needs}
 use Rattle.store.proofs.counts.clear_rows.Statement.{statement}

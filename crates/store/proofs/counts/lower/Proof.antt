@@ -1,63 +1,24 @@
--- `lower` turns one count of the pair.
-use Prim.Native.Nat.{ℕ, _<_}
+-- `lower` takes one from the count.
+use Prim.Native.Nat.{ℕ, _-_}
 use native.Mathlib.Omega.{arith}
-use mathlib.Core.Path.{_≡_, sym, ap, _∙_}
-use mathlib.Core.List.{List, []}
-use lib.ListN.{length}
-use Rattle.flow.specs.Box.{Sort, mappings}
-use Rattle.flow.specs.Calls.{sortOf, lowered}
-use Rattle.store.specs.declared.counts.Cells.{Cells}
-use Rattle.store.specs.Maps.{view}
-use Rattle.store.specs.Pairs.{readIn, bothIn}
-use Rattle.store.proofs.Storing.{read-count, both-count}
-use Rattle.store.proofs.Raising.{sort-read, sort-both, read-turned, both-turned}
+use mathlib.Core.Path.{ap, _∙_}
+use mathlib.Core.List.{[]}
+use lib.ListN.{set}
+use Rattle.flow.specs.Box.{rowOf}
+use Rattle.flow.specs.Calls.{sortOf, withRow, lowered}
+use Rattle.store.specs.Maps.{view, withTables}
 use borrow.Author.Needs.{needs}
 use Rattle.store.proofs.counts.lower.Statement.{statement}
 use Rattle.store.proofs.counts.lower.Tie as tie
 
-module _ (m : tie.After-cells-of) where
-  abbrev start : tie.Start
-  start = m .before .before .before
-
-  abbrev words : List ℕ
-  words = start .args .words .now
-
-  long : length words ≡ 353
-  long = search needs
-
-  abbrev counts : Sort → ℕ
-  counts y = mappings (view words [] [] .tables) y (start .args .p .0) (start .args .c .0)
-
-  -- what it counts
-  read-is : start .args .x .0 ≡ 0 → 0 < readIn (m .cells-of .result) (start .args .c .0)
-  read-is e =
-      let f : readIn (m .cells-of .result) (start .args .c .0) ≡ counts (sortOf (start .args .x .0)) =
-      ap (λ (z : Cells). readIn z (start .args .c .0)) (m .cells-of .ensures) ∙ sym (read-count words [] [] long _ (start .pre .0) _ (start .pre .1)) ∙ ap counts (sym (sort-read _ e)) in
-      omega (arith, f, start .pre .2)
-
-  both-is : (start .args .x .0 ≡ 0 → ⊥) → 0 < bothIn (m .cells-of .result) (start .args .c .0)
-  both-is e =
-      let f : bothIn (m .cells-of .result) (start .args .c .0) ≡ counts (sortOf (start .args .x .0)) =
-      ap (λ (z : Cells). bothIn z (start .args .c .0)) (m .cells-of .ensures) ∙ sym (both-count words [] [] long _ (start .pre .0) _ (start .pre .1)) ∙ ap counts (sym (sort-both _ e)) in
-      omega (arith, f, start .pre .2)
-
 returns : tie.Need-returns
 unfolding lowered
 returns c d n =
-    let m = c .before .before .before .before .before in
-    let s = start m in
-    rw (c .put-cells .ensures, sort-read _ (c .before .before .before .if1 .taken), read-count (words m) d n (long m) _ (s .pre .0) _ (s .pre .1))
-    (read-turned (words m) d n (long m) _ (s .pre .0) _ (s .pre .1) _ _ (rw (m .cells-of .ensures) at (c .before .less-read .ensures)))
-
-returns-2 : tie.Need-returns-2
-unfolding lowered
-returns-2 c d n =
-    let m = c .before .before .before .before .before in
-    let s = start m in
-    rw (c .put-cells2 .ensures, sort-both _ (c .before .before .before .if1 .left), both-count (words m) d n (long m) _ (s .pre .0) _ (s .pre .1))
-    (both-turned (words m) d n (long m) _ (s .pre .0) _ (s .pre .1) _ _ (rw (m .cells-of .ensures) at (c .before .less-both .ensures)))
+    let k = c .before .before in
+    let a = k .before .before .args in
+    let m = view (a .words .now) d n in
+    let x = sortOf (a .x .0) in
+    c .recount .ensures d n ∙ ap (λ (z : ℕ). withTables m (withRow (m .tables) x (a .p .0) (set (rowOf (m .tables) x (a .p .0)) (a .c .0) z))) (ap (λ (z : ℕ). z - 1) (k .count .ensures d n))
 
 pub lower-spec : {M : Type 1} → statement M
-lower-spec =
-    tie.close
-    (tie.spec (λ c κs. search needs) (λ c κs. let m = c .before .before .before in (start m .pre .1, read-is m (c .before .if1 .taken))) (λ c κs. search needs) (λ c κs. let m = c .before .before .before in (start m .pre .1, both-is m (c .before .if1 .left))) (λ c κs. search needs) returns returns-2)
+lower-spec = tie.close (tie.spec (λ c κs. search needs) (λ c. let k = c .before in omega (arith, k .count .ensures [] [], k .before .before .pre .2)) (λ c κs. let s = c .before .before .before in (s .pre .0, s .pre .1)) returns)

@@ -1,8 +1,7 @@
 -- `maps` reads a set.
-use Prim.Native.Nat.{ℕ, _+_, _^_, _<_}
-use mathlib.Core.Path.{_≡_, sym}
+use Prim.Native.Nat.{ℕ, _+_}
+use mathlib.Core.Path.{sym}
 use mathlib.Core.List.{List}
-use lib.ListN.{getD}
 use Rattle.store.specs.Maps.{mapsIn}
 use Rattle.store.proofs.Words.{feeders-is, feeders-past}
 use borrow.Author.Needs.{needs}

@@ -1,5 +1,4 @@
 -- `held_by` joins the files of the descriptors and of what is mapped.
-use mathlib.Core.List.{[]}
 use Rattle.sets.specs.Sets.{_∪_, _∩_}
 use Rattle.store.specs.Maps.{view}
 use Rattle.tracker.specs.Plans.{heldBy}

@@ -1,5 +1,4 @@
 -- `change_tables` is the table of calls, less the items.
-use native.Mathlib.Omega.{arith}
 use mathlib.Core.Path.{refl, _∙_}
 use mathlib.Core.List.{[], _∷_}
 use mathlib.Core.Option.{Option}
@@ -10,7 +9,7 @@ use Rattle.flow.specs.Refusals.{ranges, needOf}
 use Rattle.store.specs.Maps.{Maps, withTables, view}
 use Rattle.tracker.specs.Rows.{tablesAt}
 use Rattle.tracker.proofs.Arms.{kind-arm, kind-rest}
-use Rattle.tracker.proofs.Facts.{process-lt, container-a, process-a, name-a, name-b, sort-b, leads-to, room-read, room-both, some-mapping}
+use Rattle.tracker.proofs.Facts.{process-lt, container-a, process-a, name-a, name-b, leads-to, room-read, room-both, some-mapping}
 use borrow.Author.Needs.{needs}
 use Rattle.tracker.proofs.tables.change_tables.Statement.{statement}
 use Rattle.tracker.proofs.tables.change_tables.Tie as tie
