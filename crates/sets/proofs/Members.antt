@@ -399,8 +399,8 @@ module _ (left : ℕ) (small : left < 2 ^ 64) (more : left ≡ 0 → ⊥) (v : �
   pub itself : v % 64 ≡ v
   itself = mod-eq-of-lt turn-below
 
-  pub turn-rest : (later : ℕ) → later ≡ without left (lowest left) → later ≡ without left (v % 64)
-  turn-rest later e = e ∙ ap (without left) (sym is ∙ sym itself)
-
   pub turn-fewer : (later : ℕ) → later ≡ without left (v % 64) → count later < count left
   turn-fewer later e = rw (e, itself) (omega (arith, count-less left v small member))
+
+  pub turn-less : (later : ℕ) → later ≡ without left (lowest left) → count later < count left
+  turn-less later e = turn-fewer later (e ∙ ap (without left) (sym is ∙ sym itself))

@@ -58,9 +58,9 @@ module _ {f : ℕ → Bool} {left todo : ℕ} (s : Seek f left todo) (more : tod
   pub seek-hit : f p ≡ true → Finds f left p
   seek-hit e = record { found = λ d. (s .part p tried, e); none = λ q. absurd (let z : ⊥ = omega (arith, seek-below) in z) }
 
-  pub seek-miss : f p ≡ false → (later : ℕ) → later ≡ without todo (p % 64) → Seek f left later
+  pub seek-miss : f p ≡ false → (later : ℕ) → later ≡ without todo (lowest todo) → Seek f left later
   seek-miss e later g =
-      rw (g, mod-eq-of-lt (wide))
+      rw (g ∙ ap (without todo) (sym is))
       (record {
         small = omega (arith, without-le todo p (omega (arith, s .small)) wide, s .small);
         part = λ q m. s .part q (without-part todo p q m);

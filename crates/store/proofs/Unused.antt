@@ -40,7 +40,7 @@ module _ {keep : ℕ → Bool} {x found left : ℕ} (s : Sifting keep x found le
       ends true b = refl
       ends false b = refl
 
-  module _ (more : left ≡ 0 → ⊥) (v : ℕ) (is : v ≡ lowest left) (later : ℕ) (e : later ≡ without left (v % 64)) where
+  module _ (more : left ≡ 0 → ⊥) (v : ℕ) (is : v ≡ lowest left) (later : ℕ) (e : later ≡ without left (lowest left)) where
     below : v < 64
     below = turn-below left (s .small) more v is
 
@@ -48,14 +48,14 @@ module _ {keep : ℕ → Bool} {x found left : ℕ} (s : Sifting keep x found le
     own = member left (s .small) more v is
 
     then-small : later < 2 ^ 64
-    then-small = rw e (without-lt left (v % 64))
+    then-small = rw e (without-lt left (lowest left))
 
     -- a member elsewhere, and v itself
     others : (c : ℕ) → c < 64 → (c ≡ v → ⊥) → has later c ≡ has left c
-    others c l d = rw (e, itself left (s .small) more v is) (without-other left v c l d)
+    others c l d = rw (e ∙ ap (without left) (sym is)) (without-other left v c l d)
 
     gone : (c : ℕ) → c < 64 → c ≡ v → has later c ≡ false
-    gone c l d = rw (e, itself left (s .small) more v is) (without-at left v c l d)
+    gone c l d = rw (e ∙ ap (without left) (sym is)) (without-at left v c l d)
 
     pub sifting-kept : keep v ≡ true → Sifting keep x (found ∪ only (v % 64)) later
     sifting-kept k =

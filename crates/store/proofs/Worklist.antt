@@ -15,7 +15,7 @@ use Rattle.flow.specs.Links.{given}
 use Rattle.flow.proofs.Bools.{chosen-l, chosen-r}
 use Rattle.flow.proofs.TableLaws.{table-at, table-length, is-table}
 use Rattle.store.specs.Maps.{cleared}
-pub use Rattle.sets.proofs.Members.{without-at, without-other, member, turn-below, turn-fewer, turn-rest}
+pub use Rattle.sets.proofs.Members.{without-at, without-other, member, turn-below, turn-less}
 
 -- ---- the loop: each member of the set r has its cell y replaced by f y
 abbrev pub mapped : (ℕ → ℕ) → List ℕ → ℕ → List ℕ
@@ -44,12 +44,12 @@ module _ (f : ℕ → ℕ) where
       go i k (no d) = ap₂ (λ (b : Bool) (y : ℕ). elim b as (λ z. ℕ) [ true ↦ f y | false ↦ y ]) (without-other r v i k d) (getD-set-other l v i (f (getD l v 0)) 0 d)
 
   module _ {items₀ : List ℕ} {r : ℕ} {items : List ℕ} {left : ℕ} (w : Working f items₀ r items left) where
-    pub working-more : (left ≡ 0 → ⊥) → (v : ℕ) → v ≡ lowest left → (items′ : List ℕ) (later : ℕ) → items′ ≡ set items (v % 64) (f (getD items (v % 64) 0)) → later ≡ without left (v % 64)
+    pub working-more : (left ≡ 0 → ⊥) → (v : ℕ) → v ≡ lowest left → (items′ : List ℕ) (later : ℕ) → items′ ≡ set items (v % 64) (f (getD items (v % 64) 0)) → later ≡ without left (lowest left)
         → Working f items₀ r items′ later
     working-more more v is items′ later e g =
         let k : v % 64 ≡ v = itself left (w .small) more v is in
         let a : items′ ≡ set items v (f (getD items v 0)) = e ∙ ap (λ (n : ℕ). set items n (f (getD items n 0))) k in
-        let b : later ≡ without left v = g ∙ ap (without left) k in
+        let b : later ≡ without left v = g ∙ ap (without left) (sym is) in
         record {
           long = ap length a ∙ length-set items v _ ∙ w .long;
           small = subst (λ (n : ℕ). n < 2 ^ 64) (sym b) (without-lt left v);

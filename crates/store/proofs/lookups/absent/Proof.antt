@@ -1,10 +1,9 @@
 -- `absent` asks for one member after the other.
-use Prim.Native.Nat.{_%_}
 use native.Mathlib.Omega.{arith}
-use mathlib.Core.Path.{_≡_, refl}
+use mathlib.Core.Path.{refl}
 use mathlib.Core.Bool.{not}
-use Rattle.sets.specs.Sets.{count, without}
-use Rattle.sets.proofs.Members.{turn-below, turn-fewer, turn-rest}
+use Rattle.sets.specs.Sets.{count}
+use Rattle.sets.proofs.Members.{turn-below, turn-less}
 use Rattle.flow.specs.Lists.{isIn}
 use Rattle.store.proofs.Unused.{Sifting, sifting-start, sifting-more, sifting-end}
 use borrow.Author.Needs.{needs}
@@ -20,21 +19,15 @@ abbrev μ-loop : tie.MeasureT-loop
 cast-v : tie.Need-cast-v Inv-loop μ-loop
 cast-v c = omega (arith, turn-below _ (c .before .before .loop .inv .small) (c .before .loop-test .taken) _ (c .lowest .ensures))
 
--- what is left
-later : (c : tie.After-rest Inv-loop μ-loop) → c .rest .result ≡ without (c .before .before .before .before .loop .left) (c .before .before .lowest .result % 64)
-later c =
-    let b = c .before .before in
-    turn-rest _ (b .before .before .loop .inv .small) (b .before .loop-test .taken) _ (b .lowest .ensures) _ (c .rest .ensures)
-
 loop-less : tie.Need-loop-less Inv-loop μ-loop
 loop-less c =
     let b = c .before .before in
-    turn-fewer _ (b .before .before .loop .inv .small) (b .before .loop-test .taken) _ (b .lowest .ensures) _ (later c)
+    turn-less _ (b .before .before .loop .inv .small) (b .before .loop-test .taken) _ (b .lowest .ensures) _ (c .rest .ensures)
 
 loop-again : tie.Need-loop-again Inv-loop μ-loop
 loop-again c =
     let b = c .before .before in
-    sifting-more (b .before .before .loop .inv) (b .before .loop-test .taken) _ (b .lowest .ensures) _ (later c) (isIn (b .lowest .result) (b .before .before .before .before .args .table .now)) refl (c .before .with-absent .ensures)
+    sifting-more (b .before .before .loop .inv) (b .before .loop-test .taken) _ (b .lowest .ensures) _ (c .rest .ensures) (isIn (b .lowest .result) (b .before .before .before .before .args .table .now)) refl (c .before .with-absent .ensures)
 
 pub absent-spec : {M : Type 1} → statement M
 absent-spec =

@@ -1,9 +1,8 @@
 -- `first_fed` tries the processes left, the lowest first.
-use Prim.Native.Nat.{_%_, _<_}
-use mathlib.Core.Path.{_≡_}
+use Prim.Native.Nat.{_<_}
 use native.Mathlib.Omega.{arith}
-use Rattle.sets.specs.Sets.{_∩_, count, without}
-use Rattle.sets.proofs.Members.{turn-fewer, turn-rest}
+use Rattle.sets.specs.Sets.{_∩_, count}
+use Rattle.sets.proofs.Members.{turn-less}
 use Rattle.flow.proofs.Meets.{meets-true, meets-false}
 use Rattle.store.specs.Search.{fedFrom}
 use Rattle.store.proofs.Searching.{Seek, seek-start, seek-below, seek-hit, seek-miss, seek-end}
@@ -21,22 +20,16 @@ abbrev μ-loop : tie.MeasureT-loop
 below : (c : tie.After-lowest Inv-loop μ-loop) → c .lowest .result < 16
 below c = seek-below (c .before .before .loop .inv) (c .before .loop-test .taken) _ (c .lowest .ensures)
 
--- those to try then
-later : (c : tie.After-rest Inv-loop μ-loop) → c .rest .result ≡ without (c .before .before .before .before .before .loop .todo) (c .before .before .before .lowest .result % 64)
-later c =
-    let b = c .before .before .before in
-    turn-rest _ (omega (arith, b .before .before .loop .inv .small)) (b .before .loop-test .taken) _ (b .lowest .ensures) _ (c .rest .ensures)
-
 loop-less : tie.Need-loop-less Inv-loop μ-loop
 loop-less c =
     let b = c .before .before .before in
-    turn-fewer _ (omega (arith, b .before .before .loop .inv .small)) (b .before .loop-test .taken) _ (b .lowest .ensures) _ (later c)
+    turn-less _ (omega (arith, b .before .before .loop .inv .small)) (b .before .loop-test .taken) _ (b .lowest .ensures) _ (c .rest .ensures)
 
 loop-again : tie.Need-loop-again Inv-loop μ-loop
 unfolding _∩_
 loop-again c =
     let b = c .before .before .before in
-    seek-miss (b .before .before .loop .inv) (b .before .loop-test .taken) _ (b .lowest .ensures) (meets-false _ _ (c .before .if1 .left)) _ (later c)
+    seek-miss (b .before .before .loop .inv) (b .before .loop-test .taken) _ (b .lowest .ensures) (meets-false _ _ (c .before .if1 .left)) _ (c .rest .ensures)
 
 pub first-fed-spec : {M : Type 1} → statement M
 unfolding _∩_
