@@ -159,7 +159,7 @@ fn absent(table: &[u8], x: u64) -> u64
     found
 }
 
-// Those that some process may map both ways.
+// The containers that some process may map both ways.
 fn ways_set(words: &[u64]) -> u64
     requires { ⌜ length (now words) ≡ 353 ⌝ }
     ensures { λ r. ⌜ r ≡ unionOf (part 81 16 (now (words .entry))) ⌝ }
