@@ -8,11 +8,16 @@ use Rattle.sets.proofs.Members.{union-has, only-has, without-at, without-other}
 use Rattle.flow.proofs.Bools.{by, or-r}
 use Rattle.store.specs.declared.counts.Cells.{Cells}
 use Rattle.store.specs.Maps.{byteOf, putByte, countBy}
-use Rattle.store.specs.Pairs.{readIn, bothIn, Bytes, Turned}
+use Rattle.store.specs.Pairs.{readIn, bothIn, Turned}
 use Rattle.store.proofs.Bytes.{byte-put, byte-other}
 use Rattle.store.proofs.Counting.{least-more}
 
 -- ---- one byte of a word, one member of a set
+-- of the word v the byte of number j is n, and the others are those of w
+record Bytes (w v j n : ℕ) : Type 0 where
+  own : byteOf v j ≡ n
+  others : (i : ℕ) → (i ≡ j → ⊥) → byteOf v i ≡ byteOf w i
+
 put-bytes : (w j n : ℕ) → n < 256 → Bytes w (putByte w j n) j n
 put-bytes w j n l = record { own = byte-put w j n l; others = λ i h. byte-other w j n l i h }
 

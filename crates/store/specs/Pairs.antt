@@ -24,11 +24,6 @@ readIn x c = countBy (has (x .maps) c) (has (x .ways) c) (byteOf (x .reads) (c %
 unfoldable pub bothIn : Cells → ℕ → ℕ
 bothIn x c = countBy (has (x .maps) c && has (x .ways) c) false (byteOf (x .boths) (c % 8))
 
--- of the word v the byte of number j is n, and the others are those of w
-pub record Bytes (w v j n : ℕ) : Type 0 where
-  pub own : byteOf v j ≡ n
-  pub others : (i : ℕ) → (i ≡ j → ⊥) → byteOf v i ≡ byteOf w i
-
 -- y counts n and m of container c, and of every other what x counts
 pub record Turned (x y : Cells) (c n m : ℕ) : Type 0 where
   pub maps : (d : ℕ) → d < 64 → (d ≡ c → ⊥) → has (y .maps) d ≡ has (x .maps) d
