@@ -9,7 +9,7 @@
 #include "pomtvia.h"
 
 enum { GUARD = 64, CODES = 24, LOG = 64, FIELDS = offsetof(struct pomtvia_monitor, fields) + 129 };
-enum { ITEMS_AT = 1, MAPPED_AT = 65, COUNTS_AT = 97, WORDS = 353 }; /* where the words have items, who maps what, and counts less one */
+enum { ITEMS_AT = 1, MAPPED_AT = 65, COUNTS_AT = 97, WORDS = 353 }; /* where the words have items, who maps what, and counts */
 enum { COUNTED = 16 }; /* of so many monitors two have their counts gone through */
 
 /* What a function is lent, with bytes around it that it must leave. */
@@ -71,7 +71,7 @@ static void fill(struct pomtvia_monitor *m, int likely)
     for (size_t k = MAPPED_AT; k < COUNTS_AT; k++)
         m->words[k] &= any();
     for (size_t k = COUNTS_AT; k < WORDS; k++)
-        m->words[k] = below(3) == 0 ? 0 : below(2) ? 0xFEFEFEFEFEFEFEFEu : m->words[k];
+        m->words[k] = below(3) == 0 ? 0 : below(2) ? 0xFFFFFFFFFFFFFFFFu : m->words[k];
     for (size_t k = 0; k < sizeof m->descriptors; k++)
         m->descriptors[k] = below(4) ? below(POMTVIA_CONTAINERS) : 255;
     for (size_t k = 0; k < sizeof m->names; k++)
@@ -156,13 +156,13 @@ static uint32_t refused_with(unsigned number)
     return POMTVIA_REFUSED | number << 8;
 }
 
-/* Unmaps until no mapping of the sort is left: how many there were. Any bytes may count one more than calls can. */
+/* Unmaps until no mapping of the sort is left: how many there were. */
 static unsigned unmapped(struct pomtvia_monitor *m, uint8_t p, uint8_t c, uint8_t sort)
 {
     unsigned n = 0;
     uint32_t answer;
     while ((answer = asked(m, POMTVIA_UNMAP, p, c, sort)) == POMTVIA_ALLOW)
-        must(++n <= POMTVIA_MAPPINGS + 1, "a count has an end");
+        must(++n <= POMTVIA_MAPPINGS, "no bytes count more than 255");
     must(answer == refused_with(POMTVIA_NO_LINK), "an unmap is refused where no mapping of its sort is left");
     return n;
 }

@@ -7,7 +7,6 @@ use mathlib.Core.List.{List}
 use lib.Dec.{ltb, leb, eqb}
 use lib.ListN.{length, getD, set, List·getD-eq-default}
 use borrow.Author.Tests.{ltb-true, ltb-false, leb-true, le-leb, eq-eqb, ne-eqb, eqb-true}
-use Rattle.sets.specs.Sets.{has}
 use Rattle.flow.specs.Box.{Sort, toRead, bothWays, Tables, rowOf, mappings}
 use Rattle.flow.specs.Calls.{withRow, withRows, sortOf}
 use Rattle.flow.proofs.Bools.{same, by, and-false-r, chosen-l, chosen-r}
