@@ -10,7 +10,7 @@ use lib.ListN.{length, getD}
 use lib.Bits.{and-le-r}
 use borrow.Author.Tests.{eq-eqb, ne-eqb, ltb-true, lt-leb}
 use Rattle.sets.specs.Sets.{has, those, thoseFrom, bit, only, without, lowest, _∪_, _∩_, unionOf}
-use Rattle.sets.proofs.Members.{union-has, union-lt, inter-has, inter-lt, less-has, none-has, only-has, only-lt, those-has, those-lt, set-ext, without-lt, without-at, without-other, member, turn-below, itself}
+use Rattle.sets.proofs.Members.{union-has, union-lt, inter-has, inter-lt, less-has, none-has, only-has, only-lt, those-has, those-lt, set-ext, without-lt, without-at, without-other, member, itself}
 use Rattle.flow.specs.Lists.{isIn}
 use Rattle.flow.specs.Box.{Tables, isDevice, isProcess, isFile, containerOf}
 use Rattle.flow.specs.Links.{mapped, used}
@@ -41,9 +41,6 @@ module _ {keep : ℕ → Bool} {x found left : ℕ} (s : Sifting keep x found le
       ends false b = refl
 
   module _ (more : left ≡ 0 → ⊥) (v : ℕ) (is : v ≡ lowest left) (later : ℕ) (e : later ≡ without left (lowest left)) where
-    below : v < 64
-    below = turn-below left (s .small) more v is
-
     own : has left v ≡ true
     own = member left (s .small) more v is
 
