@@ -21,10 +21,16 @@ pub framed : (bytes : List ℕ) (x y z : Bool) → cutShort bytes ≡ x → know
 unfolding frameTests
 framed bytes x y z e f g = rw (e, f, g)
 
--- the stated length against the one that is wanted
-pub tested : (bytes : List ℕ) (stated tag wanted : ℕ) → stated ≡ statedLength bytes → tag ≡ tagOf bytes → wanted ≡ tagLength tag → wrongLength bytes ≡ not (eqb stated wanted)
-unfolding wrongLength
-tested bytes stated tag wanted e f g = rw (g, f, e)
+-- the two of tag and length, each by its value
+pub measured : (tag stated wanted : ℕ) (y z : Bool) → knownTag tag ≡ y → wanted ≡ tagLength tag → eqb stated wanted ≡ z
+    → firstThat ((not (knownTag tag) ⇒ 2) ∷ (not (eqb stated (tagLength tag)) ⇒ 3) ∷ []) ≡ firstThat ((not y ⇒ 2) ∷ (not z ⇒ 3) ∷ [])
+measured tag stated wanted y z e f g = rw (e, ← f, g)
+
+-- the tests of a record that isn't cut short
+pub uncut : (bytes : List ℕ) (tag stated : ℕ) → cutShort bytes ≡ false → tag ≡ tagOf bytes → stated ≡ statedLength bytes
+    → firstThat ((not (knownTag tag) ⇒ 2) ∷ (not (eqb stated (tagLength tag)) ⇒ 3) ∷ []) ≡ firstThat (frameTests bytes)
+unfolding frameTests wrongLength firstThat _⇒_
+uncut bytes tag stated e f g = rw (f, g, e)
 
 -- a tag that is neither a call's nor a separation's
 pub length-other : (t : ℕ) → (t ≡ callTag → ⊥) → (t ≡ separateTag → ⊥) → 11 ≡ tagLength t

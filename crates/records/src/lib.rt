@@ -1,7 +1,9 @@
 // The record at the front of a byte slice (document 01, The records), and how far it goes.
 ghost use mathlib.Core.Path.{_≡_};
+ghost use mathlib.Core.Bool.{not};
 ghost use mathlib.Core.List.{[], _∷_};
-ghost use Rattle.flow.specs.Lists.{tableFrom, firstThat, refusalFrom};
+ghost use lib.Dec.{eqb};
+ghost use Rattle.flow.specs.Lists.{tableFrom, _⇒_, firstThat, refusalFrom};
 ghost use Rattle.flow.specs.Records.{byteAt, statedLength, cutShort, knownTag, tagLength, numberFrom, frameTests, reading};
 ghost use Rattle.records.specs.Reading.{extentOf, readingOf};
 
@@ -70,7 +72,21 @@ fn length_of(tag: u8) -> u16
     }
 }
 
-// The refusal of what cannot be read, 0 where there is none.
+// 2 or 3 where tag and stated length are not those of a record, else 0.
+fn unfit(tag: u8, stated: u16) -> u8
+    ensures { λ r. ⌜ refusalFrom r ≡ firstThat ((not (knownTag tag) ⇒ 2) ∷ (not (eqb stated (tagLength tag)) ⇒ 3) ∷ []) ⌝ }
+{
+    if !known(tag) {
+        return 2;
+    }
+    let wanted = length_of(tag);
+    if stated != wanted {
+        return 3;
+    }
+    0
+}
+
+// The refusal of what cannot be read, 0 where there is none. A call's tag is asked apart, so that the compiler knows its length.
 fn refusal(bytes: &[u8]) -> u8
     ensures { λ r. ⌜ refusalFrom r ≡ firstThat (frameTests (now (bytes .entry))) ⌝ }
 {
@@ -78,15 +94,11 @@ fn refusal(bytes: &[u8]) -> u8
         return 1;
     }
     let tag = at(bytes, 0);
-    if !known(tag) {
-        return 2;
-    }
     let stated = stated_length(bytes);
-    let wanted = length_of(tag);
-    if stated != wanted {
-        return 3;
+    if tag == CALL_TAG {
+        return unfit(CALL_TAG, stated);
     }
-    0
+    unfit(tag, stated)
 }
 
 // The number of four bytes, high byte first.
