@@ -10,6 +10,7 @@ use lib.ListN.{length, getD}
 use lib.Bits.{and-le-r}
 use borrow.Author.Tests.{eq-eqb, ne-eqb, ltb-true, lt-leb}
 use Rattle.sets.specs.Sets.{has, those, thoseFrom, bit, only, without, lowest, _∪_, _∩_, unionOf}
+use Rattle.sets.proofs.Unions.{union-none}
 use Rattle.sets.proofs.Members.{union-has, union-lt, inter-has, inter-lt, less-has, none-has, only-has, only-lt, those-has, those-lt, set-ext, without-lt, without-at, without-other, member, itself}
 use Rattle.flow.specs.Lists.{isIn}
 use Rattle.flow.specs.Box.{Tables, isDevice, isProcess, isFile, containerOf}
@@ -108,25 +109,24 @@ unfolding isFile
 process-file c d = let r = process-range c d in rw (lt-leb 24 c (omega (arith, r .1))) refl
 
 -- by cases of what is said of a container: of a device, a process, a file or pipe
-of-device : (a r m n d : Bool) → (((a && false) && not r) || ((((a && false) && not m) && not n) && not d)) ≡ (a && not true)
-of-device true r m n d = refl
-of-device false r m n d = refl
+of-device : (a r n m d : Bool) → (((a && false) && not r) || ((((a && false) && not n) && not m) && not d)) ≡ (a && not true)
+of-device true r n m d = refl
+of-device false r n m d = refl
 
-of-process : (a r m n d : Bool) → (((a && true) && not r) || ((((a && false) && not m) && not n) && not d)) ≡ (a && not r)
-of-process true true m n d = refl
-of-process true false m n d = refl
-of-process false r m n d = refl
+of-process : (a r n m d : Bool) → (((a && true) && not r) || ((((a && false) && not n) && not m) && not d)) ≡ (a && not r)
+of-process true true n m d = refl
+of-process true false n m d = refl
+of-process false r n m d = refl
 
-of-file : (a r m n d : Bool) → (((a && false) && not r) || ((((a && true) && not m) && not n) && not d)) ≡ (a && not (n || d || m))
-of-file true r true true d = refl
-of-file true r true false true = refl
-of-file true r true false false = refl
-of-file true r false true d = refl
+of-file : (a r n m d : Bool) → (((a && false) && not r) || ((((a && true) && not n) && not m) && not d)) ≡ (a && not (n || d || m))
+of-file true r true m d = refl
+of-file true r false true true = refl
+of-file true r false true false = refl
 of-file true r false false true = refl
 of-file true r false false false = refl
-of-file false r m n d = refl
+of-file false r n m d = refl
 
-module _ (w d n : List ℕ) (long : length w ≡ 353) (x : ℕ) (small : x < 2 ^ 64) (all : ℕ) (is : all ≡ unionOf (part 65 16 w)) (fits : all < 2 ^ 64) where
+module _ (w d n : List ℕ) (x : ℕ) (small : x < 2 ^ 64) where
   abbrev t : Tables
   t = view w d n .tables
 
@@ -136,14 +136,8 @@ module _ (w d n : List ℕ) (long : length w ≡ 353) (x : ℕ) (small : x < 2 ^
   abbrev dead : ℕ
   dead = (x ∩ 0xFFFF00) ∩ (2 ^ 64 - 1 - running)
 
-  abbrev unmapped : ℕ
-  unmapped = (x ∩ files) ∩ (2 ^ 64 - 1 - all)
-
   abbrev unnamed : ℕ
-  unnamed = those (λ c. has unmapped c && not (isIn c n))
-
-  abbrev unopened : ℕ
-  unopened = those (λ c. has unnamed c && not (isIn c d))
+  unnamed = those (λ c. has (x ∩ files) c && not (isIn c n))
 
   running-lt : running < 2 ^ 64
   unfolding _∩_
@@ -161,28 +155,42 @@ module _ (w d n : List ℕ) (long : length w ≡ 353) (x : ℕ) (small : x < 2 ^
   dead-has c h =
       less-has (x ∩ 0xFFFF00) running c running-lt h ∙ ap (λ (b : Bool). b && not (has running c)) (inter-has x 0xFFFF00 c ∙ ap (λ (b : Bool). has x c && b) (processes-has c h))
 
-  open-has : (c : ℕ) → c < 64 → has unopened c ≡ ((((has x c && isFile c) && not (mapped t c)) && not (isIn c n)) && not (isIn c d))
-  open-has c h =
-      those-has (λ i. has unnamed i && not (isIn i d)) c h
-      ∙ ap (λ (b : Bool). b && not (isIn c d))
-      (those-has (λ i. has unmapped i && not (isIn i n)) c h
-      ∙ ap (λ (b : Bool). b && not (isIn c n))
-      (less-has (x ∩ files) all c fits h
-      ∙ ap₂ (λ (a b : Bool). a && not b) (inter-has x files c ∙ ap (λ (b : Bool). has x c && b) (files-has c h))
-      (ap (λ (y : ℕ). has y c) is ∙ mapped-is w d n long c (rw is at fits))))
+  unnamed-has : (c : ℕ) → c < 64 → has unnamed c ≡ ((has x c && isFile c) && not (isIn c n))
+  unnamed-has c h =
+      those-has (λ i. has (x ∩ files) i && not (isIn i n)) c h ∙ ap (λ (b : Bool). b && not (isIn c n)) (inter-has x files c ∙ ap (λ (b : Bool). has x c && b) (files-has c h))
 
-  one : (c : ℕ) → c < 64 → has (dead ∪ unopened) c ≡ (has x c && not (used t c))
+  -- with the files and pipes of x that nothing keeps in use, all that is not in use
+  together : (f : ℕ) → f < 2 ^ 64 → ((c : ℕ) → c < 64 → has f c ≡ ((((has x c && isFile c) && not (isIn c n)) && not (mapped t c)) && not (isIn c d)))
+      → dead ∪ f ≡ those (λ c. has x c && not (used t c))
   unfolding view
-  one c h =
-      union-has dead unopened c ∙ ap₂ _||_ (dead-has c h) (open-has c h)
-      ∙ by (isDevice c) (λ e. rw (used-device t c e, device-process c e, device-file c e) (of-device (has x c) (has running c) (mapped t c) (isIn c n) (isIn c d)))
-      (λ e. by (isProcess c)
-      (λ q. let r = process-range c q in
-      let f : c ≡ containerOf (c - 8) = omega (arith, r .0) in
-      rw (used-live t c e q, q, process-file c q, ap (has running) f ∙ running-has (c - 8) (omega (arith, r .1))) (of-process (has x c) (has (getD w 0 0) (c - 8)) (mapped t c) (isIn c n) (isIn c d)))
-      (λ q. rw (used-file t c e q, q, is-file c h e q) (of-file (has x c) (has running c) (mapped t c) (isIn c n) (isIn c d))))
-
-  pub unused-set : dead ∪ unopened ≡ those (λ c. has x c && not (used t c))
-  unused-set =
-      set-ext (dead ∪ unopened) _ (union-lt dead unopened (inter-lt (x ∩ 0xFFFF00) _ (inter-lt x 0xFFFF00 small)) (those-lt _)) (those-lt _)
+  together f low each =
+      set-ext (dead ∪ f) _ (union-lt dead f (inter-lt (x ∩ 0xFFFF00) _ (inter-lt x 0xFFFF00 small)) low) (those-lt _)
       (λ c h. one c h ∙ sym (those-has (λ i. has x i && not (used t i)) c h))
+    where
+      one : (c : ℕ) → c < 64 → has (dead ∪ f) c ≡ (has x c && not (used t c))
+      one c h =
+          union-has dead f c ∙ ap₂ _||_ (dead-has c h) (each c h)
+          ∙ by (isDevice c) (λ e. rw (used-device t c e, device-process c e, device-file c e) (of-device (has x c) (has running c) (isIn c n) (mapped t c) (isIn c d)))
+          (λ e. by (isProcess c)
+          (λ q. let r = process-range c q in
+          let g : c ≡ containerOf (c - 8) = omega (arith, r .0) in
+          rw (used-live t c e q, q, process-file c q, ap (has running) g ∙ running-has (c - 8) (omega (arith, r .1))) (of-process (has x c) (has (getD w 0 0) (c - 8)) (isIn c n) (mapped t c) (isIn c d)))
+          (λ q. rw (used-file t c e q, q, is-file c h e q) (of-file (has x c) (has running c) (isIn c n) (mapped t c) (isIn c d))))
+
+  -- where every file and pipe of x has a name
+  pub unused-named : unnamed ≡ 0 → dead ≡ those (λ c. has x c && not (used t c))
+  unused-named e =
+      sym (union-none dead)
+      ∙ together 0 (omega arith)
+      (λ c h. none-has c ∙ ap (λ (b : Bool). (b && not (mapped t c)) && not (isIn c d)) (sym (ap (λ (y : ℕ). has y c) e ∙ none-has c) ∙ unnamed-has c h))
+
+  module _ (long : length w ≡ 353) (all : ℕ) (is : all ≡ unionOf (part 65 16 w)) (fits : all < 2 ^ 64) where
+    abbrev unopened : ℕ
+    unopened = those (λ c. has (unnamed ∩ (2 ^ 64 - 1 - all)) c && not (isIn c d))
+
+    pub unused-set : dead ∪ unopened ≡ those (λ c. has x c && not (used t c))
+    unused-set =
+        together unopened (those-lt _)
+        (λ c h. those-has (λ i. has (unnamed ∩ (2 ^ 64 - 1 - all)) i && not (isIn i d)) c h
+        ∙ ap (λ (b : Bool). b && not (isIn c d))
+        (less-has unnamed all c fits h ∙ ap₂ (λ (a b : Bool). a && not b) (unnamed-has c h) (ap (λ (y : ℕ). has y c) is ∙ mapped-is w d n long c (rw is at fits))))

@@ -62,6 +62,14 @@ pub fn descriptor(descriptors: &[u8; 512], p: Process, d: Descriptor) -> u8
     entry(descriptors, BLOCK * (p.0 as usize) + d.0 as usize)
 }
 
+// The same, with slots taken as they come round: 512 is 0.
+pub fn at_slot(descriptors: &[u8; 512], p: Process, d: Descriptor) -> u8
+    ensures { λ r. ⌜ r ≡ getD (now (descriptors .entry)) (slot (p .0) (d .0) % 512) closed ⌝ }
+{
+    let entries: &[u8] = descriptors;
+    entries[(BLOCK * (p.0 as usize) + d.0 as usize) % 512]
+}
+
 // Names are taken as they come round: 128 is 0.
 pub fn name(names: &[u8; 128], n: Name) -> u8
     ensures { λ r. ⌜ r ≡ getD (now (names .entry)) (n .0 % 128) closed ⌝ }
@@ -215,6 +223,9 @@ pub fn unused_of(words: &[u64; 353], descriptors: &[u8; 512], names: &[u8; 128],
 {
     let running = (live(words) & ALL_PROCESSES) << 8;
     let dead = (x & PROCESS_CONTAINERS) & !running;
-    let files = (x & FILES) & !mapped(words);
-    dead | absent(descriptors, absent(names, files))
+    let unnamed = absent(names, x & FILES);
+    if unnamed == 0 {
+        return dead;
+    }
+    dead | absent(descriptors, unnamed & !mapped(words))
 }

@@ -8,6 +8,7 @@ use store::limits::CONTAINERS;
 use store::limits::DEVICES;
 use store::limits::FILES;
 use store::limits::FIRST_FILE;
+use store::lookups::at_slot;
 use store::lookups::descriptor;
 use store::lookups::in_use;
 use store::lookups::is_fed;
@@ -93,7 +94,7 @@ pub fn emptied_by(words: &[u64; 353], descriptors: &[u8; 512], names: &[u8; 128]
         1 => DEVICES + p,
         3 => c,
         4 => c,
-        10 => free(words, descriptor(descriptors, Process(p), Descriptor(a))),
+        10 => free(words, at_slot(descriptors, Process(p), Descriptor(a))),
         _ => CLOSED,
     }
 }

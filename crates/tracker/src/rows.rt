@@ -60,7 +60,8 @@ fn fits(kind: u8, q: Call) -> bool
         7 | 8 | 9 | 10 | 11 | 12 => (p < PROCESSES) & (a < DESCRIPTORS) & (b == 0) & (c == 0),
         13 => (p < PROCESSES) & (a < CONTAINERS) & (b < SORTS) & (c == 0),
         14 => (p < PROCESSES) & (a < NAMES) & (b == 0) & (c == 0),
-        15 | 16 => (p < PROCESSES) & (a < NAMES) & (b < NAMES) & (c == 0),
+        // In this order, so that the compiler keeps what it knows of either name.
+        15 | 16 => (p < PROCESSES) & (a < NAMES) & (c == 0) & (b < NAMES),
         17 => (p < PROCESSES) & (a < PROCESSES) & (b == 0) & (c == 0),
         19 => (p == 0) & (a < CONTAINERS) & (b < ITEMS) & (c == 0),
         _ => false,
