@@ -15,7 +15,7 @@ use Rattle.flow.specs.Lists.{firstThat}
 use Rattle.flow.specs.Box.{closed, slot, containerOf, isFile, Sort, toRead, bothWays, rowOf, mappings, descriptor, isOpen}
 use Rattle.flow.specs.Calls.{Kind, mapRead, mapBoth, unmap, kindNumber, isKind, sortOf}
 use Rattle.flow.specs.Records.{kinds, kindOf, callBy, callFrom}
-use Rattle.flow.specs.Refusals.{Range, aProcess, aName, aContainer, aFile, anItem, aSort, unused, ranges, fieldsFit, inRange, openDescriptor, needOf, missing, full, callTests}
+use Rattle.flow.specs.Refusals.{Range, aProcess, aDescriptor, aName, aContainer, aFile, anItem, aSort, unused, ranges, fieldsFit, inRange, openDescriptor, needOf, missing, full, callTests}
 use Rattle.flow.proofs.Bools.{and-r, or-false-l}
 use Rattle.flow.proofs.KindLaws.{kind-at}
 use Rattle.flow.proofs.TableLaws.{untrue}
@@ -89,6 +89,11 @@ module _ {words descriptors names : List ℕ} {q : Call} (h : Passes words descr
 
     pub own-a : ranges k .a ≡ aProcess → (8 + q .a) % 64 ≡ containerOf (q .a)
     own-a r = mod-eq-of-lt (omega (arith, process-a r))
+
+    -- the slot of its descriptor is in the table
+    pub slot-a : ranges k .a ≡ aDescriptor → slot (q .process) (q .a) % 512 ≡ slot (q .process) (q .a)
+    unfolding inRange
+    slot-a r = let l : q .a < 32 = ltb-true _ _ (rw r at (fits-a (ranges k) (asked q k) (at-kind k e .fits))) in mod-eq-of-lt (omega (arith, process-lt))
 
     pub name-a : ranges k .a ≡ aName → q .a % 128 ≡ q .a
     unfolding inRange

@@ -12,7 +12,7 @@ use Rattle.store.specs.Maps.{view, containerSet}
 use Rattle.store.proofs.Files.{containerSet-low}
 use Rattle.tracker.specs.Plans.{emptiedBy, emptiedAt}
 use Rattle.tracker.proofs.Arms.{kind-arm, kind-rest}
-use Rattle.tracker.proofs.Facts.{process-lt, file-c, leads-to}
+use Rattle.tracker.proofs.Facts.{process-lt, slot-a, file-c, leads-to}
 use Rattle.tracker.proofs.Finding.{free-entry}
 use borrow.Author.Needs.{needs}
 use Rattle.tracker.proofs.release.emptied_by.Statement.{statement}
@@ -26,11 +26,11 @@ add-result : tie.Need-add-result
 add-result c = omega (arith, process-lt (c .before .pre))
 
 returns-4 : tie.Need-returns-4
-unfolding view emptiedAt emptiedBy kinds descriptor kindNumber needOf
+unfolding view emptiedAt emptiedBy kinds descriptor kindNumber ranges needOf
 returns-4 c =
     let m = c .before .before in
     let s = m .before in
-    rw (c .free .ensures (s .args .descriptors .now) (s .args .names .now), c .before .descriptor .ensures, free-entry _ _ (leads-to (s .pre) truncate (m .match .keys4) refl)) (kind-arm (row s) (10 ∷ []) _ refl _ (m .match .keys4))
+    rw (c .free .ensures (s .args .descriptors .now) (s .args .names .now), c .before .at-slot .ensures, slot-a (s .pre) truncate (m .match .keys4) refl, free-entry _ _ (leads-to (s .pre) truncate (m .match .keys4) refl)) (kind-arm (row s) (10 ∷ []) _ refl _ (m .match .keys4))
 
 pub emptied-by-spec : {M : Type 1} → statement M
 unfolding view emptiedAt emptiedBy kinds kindNumber ranges containerSet

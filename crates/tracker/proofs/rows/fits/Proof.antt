@@ -1,9 +1,10 @@
 -- `fits` is the row of test 5.
 use native.Mathlib.Omega.{arith}
-use mathlib.Core.Path.{refl}
-use mathlib.Core.Bool.{Bool}
+use mathlib.Core.Path.{_≡_, refl, _∙_}
+use mathlib.Core.Bool.{Bool, true, false, _&&_, and-comm}
 use mathlib.Core.List.{[], _∷_}
 use mathlib.Core.Option.{Option}
+use lib.Dec.{eqb, ltb}
 use Rattle.flow.specs.Box.{isFile}
 use Rattle.flow.specs.Calls.{Kind}
 use Rattle.flow.specs.Records.{kinds}
@@ -24,13 +25,20 @@ returns-11 c =
     let c3 = c2 .before in
     kind-between (row (c3)) ((19 ∷ []) ∷ (17 ∷ []) ∷ (14 ∷ []) ∷ (13 ∷ []) ∷ (6 ∷ []) ∷ (5 ∷ []) ∷ (4 ∷ []) ∷ (3 ∷ []) ∷ (2 ∷ []) ∷ (1 ∷ 18 ∷ []) ∷ []) 1 13 _ refl _ (c2 .match .rest) (c1 .if1 .left) (c .if2 .taken) (omega arith)
 
+-- two tests after another, in the other order
+exchanged : (x y z : Bool) → ((x && y) && z) ≡ ((x && z) && y)
+exchanged true y z = and-comm y z
+exchanged false y z = refl
+
 returns-12 : tie.Need-returns-12
 unfolding fitsAt fieldsFit ranges inRange isFile kinds
 returns-12 c =
     let c1 = c .before in
     let c3 = c1 .before .before in
     let c4 = c3 .before in
-    kind-between (row (c4)) ((19 ∷ []) ∷ (17 ∷ []) ∷ (14 ∷ []) ∷ (13 ∷ []) ∷ (6 ∷ []) ∷ (5 ∷ []) ∷ (4 ∷ []) ∷ (3 ∷ []) ∷ (2 ∷ []) ∷ (1 ∷ 18 ∷ []) ∷ []) 13 17 _ refl _ (c3 .match .rest) (c1 .if2 .left) (c .if3 .taken) (omega arith)
+    let q = c4 .args .q in
+    exchanged (ltb (q .process) 16 && ltb (q .a) 128) (eqb (q .c) 0) (ltb (q .b) 128)
+    ∙ kind-between (row (c4)) ((19 ∷ []) ∷ (17 ∷ []) ∷ (14 ∷ []) ∷ (13 ∷ []) ∷ (6 ∷ []) ∷ (5 ∷ []) ∷ (4 ∷ []) ∷ (3 ∷ []) ∷ (2 ∷ []) ∷ (1 ∷ 18 ∷ []) ∷ []) 13 17 _ refl _ (c3 .match .rest) (c1 .if2 .left) (c .if3 .taken) (omega arith)
 
 returns-13 : tie.Need-returns-13
 unfolding fitsAt fieldsFit ranges inRange isFile kinds
