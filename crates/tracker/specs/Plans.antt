@@ -151,7 +151,7 @@ lostAt t q (some k) = lostBy t (q .process) (q .a) (q .b) (q .c) k
 
 -- the set that a Lost stands for
 abbrev pub lostSet : Lost → ℕ
-lostSet lost = fileSet (lost .entry) ∪ lost .held
+lostSet lost = (fileSet (lost .entry) ∪ fileSet (lost .unmapped)) ∪ lost .held
 
 -- of the set lost, those that are not in use
 unfoldable pub goneOf : Tables → ℕ → ℕ

@@ -34,17 +34,22 @@ fn held_by(words: &[u64; 353], descriptors: &[u8; 512], p: u8) -> u64
     block_files(descriptors, Process(p)) | (maps(words, Process(p)) & FILES)
 }
 
-// What a call may end the use of: what an entry leads to, or unmap's container, where that is a file or pipe (closed where there is none),
-// and a set of containers.
+// What a call may end the use of: what an entry leads to, and unmap's container, where that is a file or pipe (closed where there is none),
+// and a set of containers. Unmap's is apart, so that the compiler need not keep field a twice.
 pub struct Lost {
     pub entry: u8,
+    pub unmapped: u8,
     pub held: u64,
 }
 
-fn losing(entry: u8, held: u64) -> Lost
-    ensures { λ r. ⌜ r ≡ record { entry = entry; held = held } ⌝ }
+fn losing(entry: u8, unmapped: u8, held: u64) -> Lost
+    ensures { λ r. ⌜ r ≡ record { entry = entry; unmapped = unmapped; held = held } ⌝ }
 {
-    Lost { entry, held }
+    Lost {
+        entry,
+        unmapped,
+        held,
+    }
 }
 
 // What a call that is not refused may end the use of.
@@ -57,16 +62,21 @@ pub fn lost_by(words: &[u64; 353], descriptors: &[u8; 512], names: &[u8; 128], q
     let a = q.a;
     let b = q.b;
     match kind {
-        7 => losing(descriptor(descriptors, Process(p), Descriptor(a)), 0),
-        13 => losing(a, 0),
-        14 => losing(name(names, Name(a)), 0),
-        15 => losing(name(names, Name(b)), 0),
-        17 => losing(CLOSED, held_by(words, descriptors, a)),
+        7 => losing(
+            descriptor(descriptors, Process(p), Descriptor(a)),
+            CLOSED,
+            0,
+        ),
+        13 => losing(CLOSED, a, 0),
+        14 => losing(name(names, Name(a)), CLOSED, 0),
+        15 => losing(name(names, Name(b)), CLOSED, 0),
+        17 => losing(CLOSED, CLOSED, held_by(words, descriptors, a)),
         18 => losing(
+            CLOSED,
             CLOSED,
             sets::with(held_by(words, descriptors, p), DEVICES + p),
         ),
-        _ => losing(CLOSED, 0),
+        _ => losing(CLOSED, CLOSED, 0),
     }
 }
 
@@ -112,6 +122,14 @@ fn unused(words: &[u64; 353], descriptors: &[u8; 512], names: &[u8; 128], e: u8)
     e
 }
 
+// Empties what an entry leads to, where that is a file or pipe that is not in use.
+fn release_one(words: &mut [u64; 353], descriptors: &[u8; 512], names: &[u8; 128], e: u8)
+    ensures { λ _. ⌜ (let m = mapsBefore words descriptors names in mapsAfter words descriptors names ≡ withItems m (cleared (m .items) (goneOf (m .tables) (fileSet e)))) ⌝ }
+{
+    let c = unused(words, descriptors, names, e);
+    empty_container(words, c);
+}
+
 // Empties each container of the set held that is not in use.
 fn release_held(words: &mut [u64; 353], descriptors: &[u8; 512], names: &[u8; 128], held: u64)
     ensures { λ _. ⌜ (let m = mapsBefore words descriptors names in mapsAfter words descriptors names ≡ withItems m (cleared (m .items) (goneOf (m .tables) held))) ⌝ }
@@ -127,7 +145,7 @@ fn release_held(words: &mut [u64; 353], descriptors: &[u8; 512], names: &[u8; 12
 pub fn release(words: &mut [u64; 353], descriptors: &[u8; 512], names: &[u8; 128], lost: Lost)
     ensures { λ _. ⌜ (let m = mapsBefore words descriptors names in mapsAfter words descriptors names ≡ withItems m (cleared (m .items) (goneOf (m .tables) (lostSet lost)))) ⌝ }
 {
-    let c = unused(words, descriptors, names, lost.entry);
-    empty_container(words, c);
+    release_one(words, descriptors, names, lost.entry);
+    release_one(words, descriptors, names, lost.unmapped);
     release_held(words, descriptors, names, lost.held);
 }
