@@ -8,8 +8,8 @@ use logreader::end_after;
 use records::Record;
 use records::read;
 use rules::RuleFields;
+use rules::judging::first_anew;
 use rules::judging::judge;
-use rules::judging::judged;
 use rules::loading::breaks_now;
 use rules::loading::unfit;
 use rules::stored;
@@ -114,7 +114,7 @@ fn give_judged(
     ensures { λ k. ⌜ Gives (monitorBefore words descriptors names sets fields) q k (now (words .exit)) ⌝ }
 {
     let plan = plan_of(words, descriptors, names, q);
-    let k = judged(words, plan, sets, fields);
+    let k = first_anew(words, plan, sets, fields);
     if k != count(fields) {
         return k;
     }

@@ -189,7 +189,7 @@ pub fn judge(words: &[u64; 353], plan: Plan, sets: &[u64; 32], fields: &[u8; 129
 }
 
 // The same. Without rules there is nothing to go through, and the compiler leads the call past it.
-pub fn judged(words: &[u64; 353], plan: Plan, sets: &[u64; 32], fields: &[u8; 129]) -> u8
+pub fn first_anew(words: &[u64; 353], plan: Plan, sets: &[u64; 32], fields: &[u8; 129]) -> u8
     ensures { λ r. ⌜ Judged (itemsIn (now (words .entry))) plan (now (sets .entry)) (now (fields .entry)) r ⌝ }
 {
     if count(fields) == 0 {

@@ -1,4 +1,4 @@
--- `judged` is `judge`; without rules the answer is 0.
+-- `first_anew` is `judge`; without rules the answer is 0.
 use mathlib.Core.Path.{_≡_, refl, sym, _∙_}
 use mir.Val.{Fits}
 use mir.Syntax.{w64}
@@ -6,8 +6,8 @@ use borrow.Author.Needs.{needs}
 use Rattle.rules.specs.Stored.{countOf}
 use Rattle.rules.specs.Judging.{firstFrom}
 use Rattle.rules.proofs.AnewLaws.{judges}
-use Rattle.rules.proofs.judging.judged.Statement.{statement}
-use Rattle.rules.proofs.judging.judged.Tie as tie
+use Rattle.rules.proofs.judging.first_anew.Statement.{statement}
+use Rattle.rules.proofs.judging.first_anew.Tie as tie
 
 returns : tie.Need-returns
 unfolding firstFrom
@@ -19,5 +19,5 @@ returns c =
     let none : countOf (a .fields .now) ≡ 0 = sym (b .count .ensures) ∙ c .if1 .taken in
     judges _ _ _ _ 0 (x .fits) (y .fits) (rw none refl)
 
-pub judged-spec : {M : Type 1} → statement M
-judged-spec = tie.close (tie.spec (λ c κs. search needs) returns (λ c κs. search needs) (λ c. c .judge .ensures))
+pub first-anew-spec : {M : Type 1} → statement M
+first-anew-spec = tie.close (tie.spec (λ c κs. search needs) returns (λ c κs. search needs) (λ c. c .judge .ensures))
