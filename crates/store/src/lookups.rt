@@ -1,4 +1,5 @@
-// Looking things up. Every number but a name's in `name` is taken as it is: past a table's end stands what the definitions say.
+// Looking things up. Every number but a name's in `name` and a slot's in `at_slot` is taken as it is: past a table's end stands what the
+// definitions say.
 use crate::limits::ALL_PROCESSES;
 use crate::limits::BLOCK;
 use crate::limits::CLOSED;

@@ -122,7 +122,7 @@ fn unused(words: &[u64; 353], descriptors: &[u8; 512], names: &[u8; 128], e: u8)
     e
 }
 
-// Empties what an entry leads to, where that is a file or pipe that is not in use.
+// Empties the container of number e, where that is a file or pipe that is not in use.
 fn release_one(words: &mut [u64; 353], descriptors: &[u8; 512], names: &[u8; 128], e: u8)
     ensures { λ _. ⌜ (let m = mapsBefore words descriptors names in mapsAfter words descriptors names ≡ withItems m (cleared (m .items) (goneOf (m .tables) (fileSet e)))) ⌝ }
 {
