@@ -12,6 +12,7 @@ use borrow.Author.Tests.{ltb-false, not-false, eqb-true, ne-eqb}
 use Rattle.flow.specs.Lists.{tableFrom, _⇒_, firstThat, refusalFrom}
 use Rattle.flow.specs.Box.{forbid, separate, confine}
 use Rattle.flow.specs.Records.{byteAt, tagOf, callTag, forbidTag, separateTag, statedLength, recordLength, valueOf, cutShort, knownTag, tagLength, wrongLength, callFrom, callIn, conditionOf, numberFrom, setIn, ruleWith, ruleIn, unreadable, aCall, aRule, frameTests, contentOf, readingBy, reading}
+use Rattle.records.specs.Reading.{headerTests}
 use Rattle.flow.proofs.Bools.{chosen-r}
 use Rattle.flow.proofs.TableLaws.{AllNone, all-none, untrue}
 
@@ -23,12 +24,12 @@ framed bytes x y z e f g = rw (e, f, g)
 
 -- the two of tag and length, each by its value
 pub measured : (tag stated wanted : ℕ) (y z : Bool) → knownTag tag ≡ y → wanted ≡ tagLength tag → eqb stated wanted ≡ z
-    → firstThat ((not (knownTag tag) ⇒ 2) ∷ (not (eqb stated (tagLength tag)) ⇒ 3) ∷ []) ≡ firstThat ((not y ⇒ 2) ∷ (not z ⇒ 3) ∷ [])
+    → firstThat (headerTests tag stated) ≡ firstThat ((not y ⇒ 2) ∷ (not z ⇒ 3) ∷ [])
 measured tag stated wanted y z e f g = rw (e, ← f, g)
 
 -- the tests of a record that isn't cut short
 pub uncut : (bytes : List ℕ) (tag stated : ℕ) → cutShort bytes ≡ false → tag ≡ tagOf bytes → stated ≡ statedLength bytes
-    → firstThat ((not (knownTag tag) ⇒ 2) ∷ (not (eqb stated (tagLength tag)) ⇒ 3) ∷ []) ≡ firstThat (frameTests bytes)
+    → firstThat (headerTests tag stated) ≡ firstThat (frameTests bytes)
 unfolding frameTests wrongLength firstThat _⇒_
 uncut bytes tag stated e f g = rw (f, g, e)
 

@@ -1,11 +1,9 @@
 // The record at the front of a byte slice (document 01, The records), and how far it goes.
 ghost use mathlib.Core.Path.{_≡_};
-ghost use mathlib.Core.Bool.{not};
 ghost use mathlib.Core.List.{[], _∷_};
-ghost use lib.Dec.{eqb};
-ghost use Rattle.flow.specs.Lists.{tableFrom, _⇒_, firstThat, refusalFrom};
+ghost use Rattle.flow.specs.Lists.{tableFrom, firstThat, refusalFrom};
 ghost use Rattle.flow.specs.Records.{byteAt, statedLength, cutShort, knownTag, tagLength, numberFrom, frameTests, reading};
-ghost use Rattle.records.specs.Reading.{extentOf, readingOf};
+ghost use Rattle.records.specs.Reading.{extentOf, headerTests, readingOf};
 
 const CALL_TAG: u8 = 0x10;
 
@@ -74,7 +72,7 @@ fn length_of(tag: u8) -> u16
 
 // 2 or 3 where tag and stated length are not those of a record, else 0.
 fn unfit(tag: u8, stated: u16) -> u8
-    ensures { λ r. ⌜ refusalFrom r ≡ firstThat ((not (knownTag tag) ⇒ 2) ∷ (not (eqb stated (tagLength tag)) ⇒ 3) ∷ []) ⌝ }
+    ensures { λ r. ⌜ refusalFrom r ≡ firstThat (headerTests tag stated) ⌝ }
 {
     if !known(tag) {
         return 2;
