@@ -3,17 +3,22 @@
 A call in place is the difference of two runs of target/bin/bench_calls under
 valgrind whose inputs differ in their last five bytes alone: the call that is
 measured, and a call of unknown kind. A call by value is the difference of a run
-of target/bin/test_calls with the call and one without it.
+of target/bin/test_calls with the call and one without it, where the call adds
+no item, since the program prints them all. Of the cases of a kind the one that
+costs most is reported.
 """
 
+import functools
 from pathlib import Path
-from typing import Dict, List, NamedTuple
+from typing import Dict, List, NamedTuple, Sequence, Tuple
 
 from bench.counting import INPUT_BUFFER, BadRun, Report, instructions, peak_of, row, rule_of, say
-from bench.states import KIND_NAMES, Case, small_cases, worst_cases
+from bench.logcases import CASES
+from bench.states import KIND_NAMES, Case
 from model import ROOT
-from model.limits import Refusal
-from model.records import Call
+from model.limits import CONTAINERS, FILES, Kind, Refusal
+from model.records import Call, encode
+from model.tracker import State, Tracker
 
 IN_PLACE = ROOT / "target" / "bin" / "bench_calls"
 BY_VALUE = ROOT / "target" / "bin" / "test_calls"
@@ -26,31 +31,86 @@ MOST_COPIED = 24 * 1024  # by value: the tracker is copied
 UNKNOWN = Call(0)
 
 
-def input_of(calls: List[Call]) -> bytes:
+def widening() -> List[Call]:
+    """Calls that leave a fresh tracker fresh, and the set that bench_calls prints last wide.
+
+    With two high containers in it, it has as many digits as any larger set: 20.
+    """
+    calls = [Call(Kind.START)]
+    for file in (FILES[-4], FILES[-1]):
+        calls += [Call(Kind.CREATE, c=file), Call(Kind.LABEL, 0, file)]
+        calls += [Call(Kind.UNLINK), Call(Kind.CLOSE)]
+    return [*calls, Call(Kind.EXIT)]
+
+
+WIDENING = widening()
+
+
+def input_of(calls: Sequence[Call]) -> bytes:
     """The calls as the programs read them."""
     return b"".join(map(bytes, calls))
 
 
+# What the model says of the calls.
+
+
+def gained_by(tracker: Tracker, call: Call) -> int:
+    """Make a call, which must be allowed: the set of the containers that gained."""
+    before = tracker.state.items
+    answer, _ = tracker.answer_record(encode(call))
+    if answer.word != "allow":
+        raise BadRun(f"{call} of the state or the measured call gets '{answer}' from the model")
+    after = tracker.state.items
+    return sum(1 << c for c in CONTAINERS if after[c] - before[c])
+
+
+@functools.lru_cache(maxsize=None)
+def model_after(calls: Tuple[Call, ...]) -> Tuple[State, int]:
+    """The state after calls, and the set of the containers that gained by any of them."""
+    tracker, gained = Tracker(), 0
+    for call in calls:
+        gained |= gained_by(tracker, call)
+    return tracker.state, gained
+
+
+def gain_of(case: Case) -> int:
+    """The set of the containers that gain by the measured call."""
+    tracker = Tracker()
+    tracker.state, _ = model_after(tuple(case.before))
+    return gained_by(tracker, case.call)
+
+
+# Runs of the programs.
+
+
+def check_lines(lines: List[str], wanted: List[str]) -> None:
+    """The first lines written must be the wanted ones."""
+    for place, (line, meant) in enumerate(zip(lines, wanted), 1):
+        if line != meant:
+            raise BadRun(f"line {place} is '{line}', not '{meant}'")
+
+
 def in_place(case: Case) -> int:
     """The instructions of a call above those of a call of unknown kind."""
-    calls = [*case.before, case.call]
-    with_call, lines = instructions(IN_PLACE, input_of(calls))
-    for call, line in zip(calls, lines):
-        if line != "0":
-            raise BadRun(f"{call} of the state or the measured call gets {line}, not 0")
-    with_unknown, lines = instructions(IN_PLACE, input_of([*case.before, UNKNOWN]))
-    if lines[len(case.before)] != str(Refusal.UNKNOWN_KIND):
-        raise BadRun(f"an unknown kind gets {lines[len(case.before)]}, not {Refusal.UNKNOWN_KIND}")
+    before = [*WIDENING, *case.before]
+    made = len(before) * ["0"]
+    _, gained = model_after(tuple(before))
+    last = [str(gained | gain_of(case)), str(gained)]
+    if len(last[0]) != len(last[1]):
+        raise BadRun(f"{case.call} makes the last line longer: no difference to take")
+    with_call, lines = instructions(IN_PLACE, input_of([*before, case.call]))
+    check_lines(lines, [*made, "0", last[0], ""])
+    with_unknown, lines = instructions(IN_PLACE, input_of([*before, UNKNOWN]))
+    check_lines(lines, [*made, str(int(Refusal.UNKNOWN_KIND)), last[1], ""])
     return with_call - with_unknown
 
 
 def by_value(case: Case) -> int:
-    """The instructions of a call with its turn of the loop and its line."""
+    """The instructions of a call that adds no item, with its turn of the loop and its line."""
     count = len(case.before)
     with_call, lines = instructions(BY_VALUE, input_of([*case.before, case.call]))
     without, other = instructions(BY_VALUE, input_of(case.before))
-    if lines[count + 1 :] != other[count:]:
-        raise BadRun(f"{case.call} changes what is printed at the end: no difference to take")
+    check_lines(lines[count:], ["0 0", *other[count:]])
     return with_call - without
 
 
@@ -70,17 +130,17 @@ class Figures(NamedTuple):
 
 
 def measured() -> Figures:
-    """Measure everything; about a minute."""
-    small, worst = small_cases(), worst_cases()
+    """Measure everything; some minutes."""
     figures = Figures({}, {}, {}, 0, 0)
     for kind, name in KIND_NAMES.items():
-        calls = [*worst[kind].before, worst[kind].call]
-        figures.small[kind] = in_place(small[kind])
-        figures.worst[kind] = in_place(worst[kind])
-        figures.whole[kind] = by_value(worst[kind])
+        small, worst = CASES["small"][kind], CASES["worst"][kind]
+        figures.small[kind] = max(map(in_place, small))
+        figures.worst[kind] = max(map(in_place, worst))
+        figures.whole[kind] = max(by_value(case) for case in worst if not gain_of(case))
+        inputs = [[*case.before, case.call] for case in worst]
         figures = figures._replace(
-            stack=max(figures.stack, stack(IN_PLACE, calls)),
-            whole_stack=max(figures.whole_stack, stack(BY_VALUE, calls)),
+            stack=max(figures.stack, *(stack(IN_PLACE, calls) for calls in inputs)),
+            whole_stack=max(figures.whole_stack, *(stack(BY_VALUE, calls) for calls in inputs)),
         )
         say(f"measured {name}")
     return figures

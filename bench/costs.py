@@ -5,7 +5,7 @@ from typing import Dict, List, NamedTuple, Tuple
 from bench.counting import row, rule_of, say
 from bench.logcases import CONFINING, DIVERTED, INHIBITED, MAPPINGS, PARTED, PARTED_DIVERTED
 from bench.logcases import PARTED_INHIBITED, PLACES, RULE_TABLES, SEEDS, LogCase
-from bench.logcases import call_cases, growing_log, other_cases, write_case
+from bench.logcases import call_cases, gaining_write, growing_log, other_cases, write_case
 from bench.programs import Pair, both, costs, log_cost
 from bench.states import D_FIRST, GIVER, KIND_NAMES, N_FIRST, link_of_chain, mapped_only
 from model.limits import FILES, PROCESSES, Kind, process_container
@@ -83,7 +83,7 @@ def table_cases(size: int) -> Dict[str, LogCase]:
     rules = RULE_TABLES["the three in turn"][:size]
     return {
         "start": call_cases(rules, "small", Kind.START)[0],
-        "write, an item gained": call_cases(rules, "small", Kind.WRITE)[-1],
+        "write, an item gained": gaining_write(rules),
     }
 
 

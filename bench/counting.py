@@ -63,10 +63,13 @@ def valgrind(options: Sequence[str], program: Path, data: bytes) -> Tuple[str, L
     if len(data) > INPUT_BUFFER:
         raise BadRun(f"{len(data):,} bytes do not fit the input")
     command = ["valgrind", *options, str(kept(program))]
-    try:
-        run = subprocess.run(command, input=data, capture_output=True, timeout=SECONDS)
-    except subprocess.TimeoutExpired as error:
-        raise BadRun(f"{program.name} under valgrind did not end in {SECONDS} s") from error
+    with tempfile.TemporaryFile() as given:  # a pipe could be read in pieces, which costs more
+        given.write(data)
+        given.seek(0)
+        try:
+            run = subprocess.run(command, stdin=given, capture_output=True, timeout=SECONDS)
+        except subprocess.TimeoutExpired as error:
+            raise BadRun(f"{program.name} under valgrind did not end in {SECONDS} s") from error
     if run.returncode != 0:
         raise BadRun(f"valgrind ended with status {run.returncode}: {run.stderr.decode()}")
     return run.stderr.decode(), run.stdout.decode().split("\n")

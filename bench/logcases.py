@@ -9,8 +9,8 @@ import functools
 from typing import Dict, List, NamedTuple
 
 from bench.states import D_LAST, FILLER, FIRST, FREE, GIVER, HIDDEN, KIND_NAMES, N_LAST, Case
-from bench.states import mapping_cases, small_cases, small_laden_cases, worst_cases
-from bench.states import worst_laden_cases
+from bench.states import mapping_cases, small_cases, small_held_cases, small_laden_cases
+from bench.states import worst_cases, worst_held_cases, worst_laden_cases
 from model.generate import MIXES
 from model.limits import CALL_TAG, CONTAINERS, COUNT_LIMIT, DEVICES, DIVERT_ACTION, FILES, ITEMS
 from model.limits import PROCESSES, RULE_LIMIT, Kind, Refusal, process_container
@@ -41,14 +41,17 @@ PARTING = [separate(0, 1 + number) for number in RULE_NUMBERS]
 CASES: Dict[str, Dict[int, List[Case]]] = {
     state: {kind: [made[kind] for made in tables if kind in made] for kind in KIND_NAMES}
     for state, tables in {
-        "small": (small_cases(), small_laden_cases()),
-        "worst": (worst_cases(), worst_laden_cases()),
+        "small": (small_cases(), small_laden_cases(), small_held_cases()),
+        "worst": (worst_cases(), worst_laden_cases(), worst_held_cases()),
     }.items()
 }
 
 
 class LogCase(NamedTuple):
-    """A record with the rules and the calls before it, and what it must get."""
+    """A record with the rules and the calls before it, and what it must get.
+
+    The answer is without the number of containers that gained: the model tells it.
+    """
 
     rules: List[Rule]
     before: List[Call]
@@ -56,15 +59,23 @@ class LogCase(NamedTuple):
     answer: str
 
 
+def allowed_case(rules: List[Rule], case: Case) -> LogCase:
+    """A call that is allowed."""
+    return LogCase(rules, case.before, encode(case.call), "allow")
+
+
 def call_cases(rules: List[Rule], state: str, kind: int) -> List[LogCase]:
     """A kind of call that is allowed, at the places where it may cost most."""
-    cases = CASES[state][kind]
-    return [LogCase(rules, case.before, encode(case.call), "allow") for case in cases]
+    return [allowed_case(rules, case) for case in CASES[state][kind]]
+
+
+def gaining_write(rules: List[Rule]) -> LogCase:
+    """The write of the small state by which the file gains an item."""
+    return allowed_case(rules, small_laden_cases()[Kind.WRITE])
 
 
 MAPPINGS: Dict[str, LogCase] = {
-    name: LogCase([], case.before, encode(case.call), "allow")
-    for name, case in mapping_cases().items()
+    name: allowed_case([], case) for name, case in mapping_cases().items()
 }
 
 
@@ -117,7 +128,7 @@ def worst_place(case: Case) -> Place:
 
 PLACES: Dict[str, List[Place]] = {
     "small": [small_place()],
-    "worst": [worst_place(case) for case in CASES["worst"][Kind.WRITE]],
+    "worst": [worst_place(made[Kind.WRITE]) for made in (worst_cases(), worst_laden_cases())],
 }
 INHIBITED = f"write, inhibited by rule {LAST_RULE}"
 DIVERTED = f"write, diverted by rule {LAST_RULE}"

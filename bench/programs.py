@@ -10,6 +10,7 @@ from bench.logcases import LogCase
 from model import ROOT
 from model.limits import Refusal
 from model.records import encode, frame_bytes
+from model.tracker import State, Tracker
 
 BUILD = ROOT / "bench" / "baseline" / "build"
 BUILD_SECONDS = 120
@@ -72,19 +73,40 @@ def log_before(case: LogCase) -> bytes:
     return b"".join(map(encode, [*case.rules, *case.before]))
 
 
-def lines_before(case: LogCase) -> List[str]:
-    """What the records before the measured one must get."""
-    return [f"rule {number}" for number in range(len(case.rules))] + len(case.before) * ["allow"]
+@functools.lru_cache(maxsize=None)
+def model_after(log: bytes) -> Tuple[List[str], State]:
+    """What the model answers to a log, and the state after it."""
+    tracker = Tracker()
+    answers = tracker.run_log(log)
+    return [str(answer) for answer in answers], tracker.state
+
+
+def without_gain(line: str) -> str:
+    """An answer without the number of containers that gained."""
+    return line.rpartition(" ")[0] if line.startswith(("allow", "modify")) else line
+
+
+def wanted_lines(case: LogCase) -> List[str]:
+    """What the model answers: rules are loaded, calls allowed, and the record gets its answer."""
+    before, state = model_after(log_before(case))
+    tracker = Tracker()
+    tracker.state = state
+    lines = [*before, str(tracker.answer_record(case.record)[0])]
+    meant = [f"rule {number}" for number in range(len(case.rules))] + len(case.before) * ["allow"]
+    if [without_gain(line) for line in lines] != [*meant, case.answer]:
+        said = f"the record {case.record.hex()} or one before it gets another answer"
+        raise BadRun(f"{said} from the model: {lines[-1]}, not {case.answer}")
+    return lines
 
 
 def record_cost(program: Program, case: LogCase) -> int:
     """The instructions of a record, its turns of the loops and its line included."""
-    log, wanted = log_before(case), lines_before(case)
+    log, wanted = log_before(case), wanted_lines(case)
     without, before = counted(program, log)
     with_record, lines = counted(program, log + case.record)
-    if before != wanted or lines != [*wanted, case.answer]:
+    if before != wanted[:-1] or lines != wanted:
         said = f"the record {case.record.hex()} or one before it gets another answer"
-        raise BadRun(f"{said} from the {program.name}: {lines[-1:]}, not {case.answer}")
+        raise BadRun(f"{said} from the {program.name}: {lines[-1:]}, not {wanted[-1]}")
     return with_record - without
 
 

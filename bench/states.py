@@ -1,8 +1,8 @@
 """The states in which calls are measured, as the calls that lead there.
 
-No container holds an item but where label is measured, and there the items are
-those that the call gives. So no measured call changes what the program prints
-at its end. The tracker only moves items: no branch goes by them.
+What a call costs depends on the items too, since it tells which containers
+gained. So a call that gives is measured where it gives nothing, where it gives
+an item that what it reaches lacks, and where it gives one that all hold.
 """
 
 from typing import Dict, List, NamedTuple
@@ -41,8 +41,15 @@ class Case(NamedTuple):
     call: Call
 
 
+# Calls that give what their process or a file holds.
+GIVING = (Kind.READ, Kind.WRITE, Kind.MAP_READ, Kind.MAP_BOTH)
+
+
 def small_cases() -> Dict[int, Case]:
-    """One live process, 0, and one file, 24, under name 0 and descriptor 0."""
+    """One live process, 0, and one file, 24, under name 0 and descriptor 0.
+
+    Nothing is held but where label is measured, which gives what is held already.
+    """
     base = [Call(Kind.START, 0), Call(Kind.CREATE, 0, 0, 0, 24)]
     mapped = [*base, Call(Kind.MAP_READ, 0, 0)]
     labelled = [*base, Call(Kind.LABEL, 0, 24, 0)]
@@ -85,6 +92,13 @@ def small_laden_cases() -> Dict[int, Case]:
         Case(base, Call(Kind.LABEL, 0, 24, 0)),
     ]
     return {case.call.kind: case for case in cases}
+
+
+def small_held_cases() -> Dict[int, Case]:
+    """The same state for calls that give item 0 to what holds it already."""
+    base = [Call(Kind.START, 0), Call(Kind.CREATE, 0, 0, 0, 24)]
+    held = [*base, Call(Kind.LABEL, 0, 24, 0), Call(Kind.READ, 0, 0)]
+    return {kind: Case(held, Call(kind, 0, 0)) for kind in GIVING}
 
 
 def mapping_cases() -> Dict[str, Case]:
@@ -192,7 +206,10 @@ def many_owned() -> List[Call]:
 
 
 def worst_cases() -> Dict[int, Case]:
-    """The worst state, less what the call needs free, and the call at its worst place."""
+    """The worst state, less what the call needs free, and the call at its worst place.
+
+    Items are as in the small cases.
+    """
     full = worst_state(PROCESSES, spread=True)
     one_dead = worst_state(PROCESSES[1:], spread=True)
     freed = [Call(Kind.CLOSE, GIVER, D_LAST)]
@@ -260,3 +277,9 @@ def worst_laden_cases() -> Dict[int, Case]:
         Case(full, Call(Kind.LABEL, 0, HIDDEN, 0)),
     ]
     return {case.call.kind: case for case in cases}
+
+
+def worst_held_cases() -> Dict[int, Case]:
+    """The same calls as in the worst cases, where all that the file reaches holds item 0."""
+    held = [*worst_state(PROCESSES, spread=True), Call(Kind.LABEL, 0, FIRST, 0)]
+    return {kind: Case(held, Call(kind, GIVER, D_FIRST)) for kind in GIVING}

@@ -4,7 +4,7 @@
  * crates/hook/src/. What each promises is said here in words. Nothing is allocated and nothing is kept between calls: all state lies in
  * a `struct pomtvia_monitor` that the caller owns.
  *
- * Answers and states are those of document 01, with Papers 1 to 4 of document 02, for every monitor in which no loaded rule is broken;
+ * Answers and states are those of document 01, with Papers 1 to 5 of document 02, for every monitor in which no loaded rule is broken;
  * pomtvia_new makes such a one, and every function leaves it so. Any other bytes are safe too: every function ends and stays within its
  * memory, refusals are right, and a refused or inhibited call leaves every byte of every field as it was.
  *
@@ -90,15 +90,20 @@ enum pomtvia_sort {
 
 /* ---- answers (document 01, What a record gets) */
 
-/* An answer is one number. Its lowest byte is the word; the next is the rule's or the refusal's number; the next the substitute. */
+/* An answer is one number. Its lowest byte is the word; the next is the rule's or the refusal's number; the next the substitute; the top
+ * one how many containers gained (document 02, Paper 5). An allowed call's answer is 0 only where no container gained: compare its
+ * POMTVIA_WORD, not the number itself. */
 #define POMTVIA_WORD(answer) ((answer) & 0xFFu)
 #define POMTVIA_NUMBER(answer) (((answer) >> 8) & 0xFFu)
 #define POMTVIA_SUBSTITUTE(answer) (((answer) >> 16) & 0xFFu)
+#define POMTVIA_GAINED(answer) (((answer) >> 24) & 0xFFu)
 
+/* A part that a word's comment does not name is 0. A container gained if it holds after the call an item that it lacked before. Each is
+ * counted once, so GAINED is at most POMTVIA_CONTAINERS. */
 enum pomtvia_word {
-    POMTVIA_ALLOW = 0,   /* the call's change is made */
+    POMTVIA_ALLOW = 0,   /* the call's change is made; GAINED containers now hold an item that they lacked before */
     POMTVIA_INHIBIT = 1, /* nothing changed; NUMBER is the lowest broken rule. A kernel turns it into EPERM */
-    POMTVIA_MODIFY = 2,  /* the write went to SUBSTITUTE instead; NUMBER is the lowest broken rule */
+    POMTVIA_MODIFY = 2,  /* the write went to SUBSTITUTE instead; NUMBER is the lowest broken rule; GAINED is of the write to SUBSTITUTE */
     POMTVIA_RULE = 3,    /* the rule is loaded; NUMBER is its number */
     POMTVIA_REFUSED = 4  /* nothing changed; NUMBER is the refusal's */
 };
@@ -150,8 +155,8 @@ POMTVIA_STATIC_ASSERT(offsetof(struct pomtvia_monitor, fields) == 3720, "the rul
 /* Makes a fresh monitor: no live process, no rules, no items anywhere, no mappings, every descriptor closed, every name unbound. */
 void pomtvia_new(struct pomtvia_monitor *m);
 
-/* What a call gets: its answer. The monitor holds the state after it, worked out where it lies. A refused or inhibited call leaves every
- * byte of every field as it was. */
+/* What a call gets: its answer, whose POMTVIA_WORD says whether it is made. The monitor holds the state after it, worked out where it lies.
+ * A refused or inhibited call leaves every byte of every field as it was. */
 uint32_t pomtvia_call(struct pomtvia_monitor *m, uint8_t kind, uint8_t process, uint8_t a, uint8_t b, uint8_t c);
 
 /* The hook of document 01, as pomtvia_call: the monitor is copied, worked on and stored back. */

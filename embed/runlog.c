@@ -20,6 +20,8 @@ static void print_answer(uint32_t answer)
         printf(" %u", (unsigned)POMTVIA_NUMBER(answer));
     if (word == POMTVIA_MODIFY)
         printf(" %u", (unsigned)POMTVIA_SUBSTITUTE(answer));
+    if (word == POMTVIA_ALLOW || word == POMTVIA_MODIFY)
+        printf(" %u", (unsigned)POMTVIA_GAINED(answer));
     putchar('\n');
 }
 

@@ -1,4 +1,4 @@
-"""A separate model of document 01 and Papers 1 to 4 of 02; what every command on logs shares."""
+"""A separate model of document 01 and Papers 1 to 5 of 02; what every command on logs shares."""
 
 from pathlib import Path
 

@@ -8,7 +8,10 @@ from model.limits import CALL_TAG, COUNT_LIMIT, DIVERT_ACTION, FILES, MAP_SORTS,
 from model.limits import by_place
 from model.records import Call, decode_call, decode_rule, read_frame
 from model.tracker import MAPPED_SORTS, Answer, State, Tracker, broken_rules, divert_obstacle
-from model.tracker import frame_refusals, work_out
+from model.tracker import frame_refusals, gains, work_out
+
+MANY = ("none gains", "one gains", "several gain")  # containers, by a call
+GAIN_IN_BOTH = "map both, a container in both reaches gains"
 
 
 class Tally:
@@ -47,6 +50,7 @@ class Tally:
                 self._count_inhibited(call, answer, before)
             else:
                 self._count_done(call, before, tracker.state, exited_mapped)
+                self._count_gains(call, answer, before, tracker.state)
 
     def _count_answer(self, answer: Answer, data: bytes, before: State) -> None:
         self.records += 1
@@ -90,7 +94,7 @@ class Tally:
         self._count_emptied(call, before, after)
         self._count_processes(call, before, exited)
         self._count_mappings(call, before, after)
-        gained = {c for c in after.items if after.items[c] - before.items[c]}
+        gained = set(gains(before, after))
         if gained and call.kind != Kind.FORK:
             self._count_gift(before, gained)
         if after.links != before.links:
@@ -136,6 +140,25 @@ class Tally:
         same = "with the same sort" if sort in there else "without the same sort"
         other = "beside the other" if {*there} - {sort} else "alone"
         self.events[f"{done}, sort {sort}, {same}, {other}"] += 1
+
+    def _count_gains(self, call: Call, answer: Answer, before: State, after: State) -> None:
+        """Count how far calls spread: document 02, Paper 5."""
+        gained = gains(before, after)
+        self.events[f"{answer.word}, {MANY[min(len(gained), 2)]}"] += 1
+        if call.kind == Kind.FORK:
+            self.events[f"fork, {MANY[min(len(gained), 2)]}"] += 1
+        if max(map(len, gained.values()), default=0) > 1:
+            self.events["one container gains several items"] += 1
+        if len({*gained.values()}) > 1:
+            self.events["containers gain different items"] += 1
+        if answer.word == "modify" and len(gains(before, work_out(before, call))) != len(gained):
+            self.events["modify, the stopped write would have reached more or fewer"] += 1
+        if call.kind == Kind.MAP_BOTH:
+            container = before.descriptors[call.process, call.a]
+            both = before.reach(call.caller) & before.reach(container)
+            self.events["map both, a container in both reaches"] += bool(both)
+            self.events[GAIN_IN_BOTH] += not both.isdisjoint(gained)
+            self.events["map both, both ends gain"] += {call.caller, container} <= {*gained}
 
     def _count_gift(self, before: State, gained: Set[int]) -> None:
         """Count the links from the container given to, the nearest gainer."""

@@ -72,7 +72,7 @@ def test_forms_differ(checks: Checks, options: Options) -> None:
     ruled.rules.append(forbid(1, [9]))
     faults = ["a linked container lacks an item of its feeder"]
     checks.equal("torn: its fault", state_faults(torn), faults)
-    for form, second, answer in ((by_sequence, {1, 2}, "inhibit 0"), (at_once, {2}, "allow")):
+    for form, second, answer in ((by_sequence, {1, 2}, "inhibit 0"), (at_once, {2}, "allow 4")):
         call = [encode(Call(Kind.MAP_BOTH, 0, 0))]
         items = form(torn, call)[0][1].items
         held = [items[container] for container in (8, 25, 24, 9)]

@@ -48,8 +48,8 @@ class Run(NamedTuple):
 
 
 def allowed(*records: Union[Call, Rule]) -> List[Tuple[Union[Call, Rule], str]]:
-    """Records that are all allowed."""
-    return [(record, "allow") for record in records]
+    """Records that are all allowed, and by which no container gains an item."""
+    return [(record, "allow 0") for record in records]
 
 
 def runs_of_a_sort(sort: int) -> List[Run]:
@@ -64,7 +64,7 @@ def runs_of_a_sort(sort: int) -> List[Run]:
     return [
         Run(
             f"mapped twice, unmapped once, {name}",
-            [*twice, *allowed(given(24, 5))],
+            [*twice, (given(24, 5), "allow 2")],
             links,
             {(0, 24, sort): 1},
             {5: [8, 24]},
@@ -74,7 +74,8 @@ def runs_of_a_sort(sort: int) -> List[Run]:
             [
                 *twice,
                 (forbid(5, [0]), "rule 0"),
-                *allowed(Call(Kind.DEVICE, 0, 2, 0), given(24, 5)),
+                *allowed(Call(Kind.DEVICE, 0, 2, 0)),
+                (given(24, 5), "allow 2"),
                 (Call(Kind.WRITE, 0, 2), "inhibit 0"),
             ],
             links,
@@ -83,7 +84,7 @@ def runs_of_a_sort(sort: int) -> List[Run]:
         ),
         Run(
             f"mapped twice, unmapped twice, {name}",
-            [*twice, *allowed(unmap, given(24, 5)), (unmap, "refused 16")],
+            [*twice, *allowed(unmap), (given(24, 5), "allow 1"), (unmap, "refused 16")],
             set(),
             {},
             {5: [24]},
@@ -159,8 +160,12 @@ def runs_of_a_sort(sort: int) -> List[Run]:
         Run(
             f"a fork copies a count of two, {name}",
             [
-                *allowed(maps, maps, Call(Kind.FORK, 0, 2), child["unmap"], given(24, 5)),
-                *allowed(unmap, unmap, given(24, 6), child["unmap"], given(24, 7)),
+                *allowed(maps, maps, Call(Kind.FORK, 0, 2), child["unmap"]),
+                (given(24, 5), "allow 3"),
+                *allowed(unmap, unmap),
+                (given(24, 6), "allow 2"),
+                *allowed(child["unmap"]),
+                (given(24, 7), "allow 1"),
             ],
             set(),
             {},
@@ -171,7 +176,10 @@ def runs_of_a_sort(sort: int) -> List[Run]:
             [
                 *allowed(maps, maps, Call(Kind.EXIT, 0), Call(Kind.START, 0)),
                 (unmap, "refused 16"),
-                *allowed(given(24, 5), Call(Kind.OPEN, 0, 1, 0), maps, unmap),
+                (given(24, 5), "allow 1"),
+                *allowed(Call(Kind.OPEN, 0, 1, 0)),
+                (maps, "allow 1"),
+                *allowed(unmap),
                 (unmap, "refused 16"),
             ],
             set(),
@@ -190,7 +198,9 @@ def runs_of_a_sort(sort: int) -> List[Run]:
         Run(
             f"a file is in use while a mapping is left, {name}",
             [
-                *allowed(maps, maps, given(24, 5), Call(Kind.UNLINK, 0, 1)),
+                *allowed(maps, maps),
+                (given(24, 5), "allow 2"),
+                *allowed(Call(Kind.UNLINK, 0, 1)),
                 *allowed(Call(Kind.CLOSE, 0, 0), Call(Kind.CLOSE, 1, 0), unmap),
                 (Call(Kind.CREATE, 0, 3, 0, 24), "refused 7"),
             ],
@@ -201,7 +211,9 @@ def runs_of_a_sort(sort: int) -> List[Run]:
         Run(
             f"the last unmap ends its use, {name}",
             [
-                *allowed(maps, maps, given(24, 5), Call(Kind.UNLINK, 0, 1)),
+                *allowed(maps, maps),
+                (given(24, 5), "allow 2"),
+                *allowed(Call(Kind.UNLINK, 0, 1)),
                 *allowed(Call(Kind.CLOSE, 0, 0), Call(Kind.CLOSE, 1, 0), unmap, unmap),
             ],
             set(),
@@ -212,7 +224,7 @@ def runs_of_a_sort(sort: int) -> List[Run]:
             f"an inhibited mapping raises no count, {name}",
             [
                 (forbid(5, [8]), "rule 0"),
-                *allowed(given(24, 5)),
+                (given(24, 5), "allow 1"),
                 (maps, "inhibit 0"),
                 (unmap, "refused 16"),
             ],
@@ -228,49 +240,68 @@ RUNS = [
     *runs_of_a_sort(BOTH),
     Run(
         "read and both ways, and the two-way one ends",
-        allowed(MAP_READ, MAP_BOTH, UNMAP_BOTH, given(24, 5), given(8, 6)),
+        [
+            *allowed(MAP_READ, MAP_BOTH, UNMAP_BOTH),
+            (given(24, 5), "allow 2"),
+            (given(8, 6), "allow 1"),
+        ],
         {TO_PROCESS},
         {(0, 24, READ): 1},
         {5: [8, 24], 6: [8]},
     ),
     Run(
         "read and both ways, and the one for reading ends",
-        allowed(MAP_BOTH, MAP_READ, UNMAP_READ, given(24, 5), given(8, 6)),
+        [
+            *allowed(MAP_BOTH, MAP_READ, UNMAP_READ),
+            (given(24, 5), "allow 2"),
+            (given(8, 6), "allow 2"),
+        ],
         {TO_PROCESS, TO_BUFFER},
         {(0, 24, BOTH): 1},
         {5: [8, 24], 6: [8, 24]},
     ),
     Run(
         "both ways twice, read once",
-        allowed(MAP_BOTH, MAP_READ, MAP_BOTH, UNMAP_READ, UNMAP_BOTH, given(8, 6)),
+        [
+            *allowed(MAP_BOTH, MAP_READ, MAP_BOTH, UNMAP_READ, UNMAP_BOTH),
+            (given(8, 6), "allow 2"),
+        ],
         {TO_PROCESS, TO_BUFFER},
         {(0, 24, BOTH): 1},
         {6: [8, 24]},
     ),
     Run(
         "a two-way mapping does not raise the read count",
-        [*allowed(MAP_BOTH, UNMAP_BOTH, given(24, 5)), (UNMAP_READ, "refused 16")],
+        [*allowed(MAP_BOTH, UNMAP_BOTH), (given(24, 5), "allow 1"), (UNMAP_READ, "refused 16")],
         set(),
         {},
         {5: [24]},
     ),
     Run(
         "items move at a second mapping",
-        allowed(MAP_READ, given(8, 6), MAP_BOTH),
+        [*allowed(MAP_READ), (given(8, 6), "allow 1"), (MAP_BOTH, "allow 1")],
         {TO_PROCESS, TO_BUFFER},
         {(0, 24, READ): 1, (0, 24, BOTH): 1},
         {6: [8, 24]},
     ),
     Run(
         "a truncated file is kept while a two-way mapping is left",
-        allowed(MAP_BOTH, MAP_BOTH, given(24, 5), UNMAP_BOTH, TRUNCATE),
+        [
+            *allowed(MAP_BOTH, MAP_BOTH),
+            (given(24, 5), "allow 2"),
+            *allowed(UNMAP_BOTH, TRUNCATE),
+        ],
         {TO_PROCESS, TO_BUFFER},
         {(0, 24, BOTH): 1},
         {5: [8, 24]},
     ),
     Run(
         "and is emptied where one for reading is left",
-        allowed(MAP_BOTH, MAP_READ, given(24, 5), UNMAP_BOTH, TRUNCATE),
+        [
+            *allowed(MAP_BOTH, MAP_READ),
+            (given(24, 5), "allow 2"),
+            *allowed(UNMAP_BOTH, TRUNCATE),
+        ],
         {TO_PROCESS},
         {(0, 24, READ): 1},
         {5: [8]},
@@ -279,7 +310,8 @@ RUNS = [
         "a device is counted too",
         [
             *allowed(Call(Kind.DEVICE, 0, 2, 3), Call(Kind.MAP_BOTH, 0, 2)),
-            *allowed(Call(Kind.MAP_BOTH, 0, 2), Call(Kind.UNMAP, 0, 3, BOTH), given(8, 5)),
+            *allowed(Call(Kind.MAP_BOTH, 0, 2), Call(Kind.UNMAP, 0, 3, BOTH)),
+            (given(8, 5), "allow 2"),
             (Call(Kind.TRUNCATE, 0, 2), "refused 10"),
         ],
         {(3, 8), (8, 3)},

@@ -8,8 +8,8 @@ from pathlib import Path
 ROOT = Path(__file__).resolve().parents[1]
 sys.path.insert(0, str(ROOT))
 
-from model import test_commands, test_forms, test_mappings, test_random  # noqa: E402
-from model import test_refusals, test_runs  # noqa: E402
+from model import test_commands, test_forms, test_gains, test_mappings  # noqa: E402
+from model import test_random, test_refusals, test_runs  # noqa: E402
 from model.checks import Checks, Options  # noqa: E402
 
 DEFAULT_SEED = 20260
@@ -31,8 +31,8 @@ def main() -> int:
     options = Options(arguments.seed, arguments.cases)
     checks = Checks()
     print(f"seeds from {options.seed}, {options.cases} cases a random test")
-    modules = (test_runs, test_refusals, test_mappings, test_random, test_forms, test_commands)
-    for module in modules:
+    modules = (test_runs, test_refusals, test_mappings, test_gains)
+    for module in (*modules, test_random, test_forms, test_commands):
         for name, test in sorted(vars(module).items()):
             if name.startswith("test_") and arguments.only in name:
                 checks.run(test, options)

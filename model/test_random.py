@@ -14,7 +14,7 @@ from model.limits import CONFINE_TAG, CONTAINERS, COUNT_LIMIT, FILES, FORBID_TAG
 from model.limits import PROCESS_CONTAINERS, RECORD_REFUSALS, SEPARATE_TAG, Kind, Refusal
 from model.limits import process_container
 from model.records import Call, Rule, read_frame
-from model.tally import Tally
+from model.tally import GAIN_IN_BOTH, MANY, Tally
 from model.test_mappings import WRONG
 from model.tracker import MAPPED_SORTS, NO_ITEMS, State, Tracker
 
@@ -310,6 +310,21 @@ MAPPING_EVENTS = [
     "unmapped, the count full",
 ]
 
+# Of how far calls spread: document 02, Paper 5.
+GAIN_EVENTS = [
+    *(f"{word}, {many}" for word in ("allow", "modify") for many in MANY),
+    *(f"fork, {many}" for many in MANY[:2]),
+    "one container gains several items",
+    "containers gain different items",
+    "modify, the stopped write would have reached more or fewer",
+    "map both, both ends gain",
+    "map both, a container in both reaches",
+]
+
+# What lies in both reaches holds already what both ends hold, since a linked container holds what
+# its feeder holds. And a fork gives to the child alone.
+NO_EVENTS = [GAIN_IN_BOTH, f"fork, {MANY[2]}"]
+
 
 def check_tallies(checks: Checks, tallies: Dict[str, Tally]) -> None:
     """Check that a batch has everything in it."""
@@ -332,9 +347,12 @@ def check_tallies(checks: Checks, tallies: Dict[str, Tally]) -> None:
             checks.true(f"generated: rule of tag {tag:x}, action {action}", count > 0)
     for event in EVENTS:
         checks.true(f"generated: {event}", tallies["deep"].events[event] > 0)
-    for event in MAPPING_EVENTS:
+    for event in (*MAPPING_EVENTS, *GAIN_EVENTS):
         count = sum(tally.events[event] for tally in tallies.values())
         checks.true(f"generated: {event}", count > 2, f"{count} times")
+    for event in NO_EVENTS:
+        count = sum(tally.events[event] for tally in tallies.values())
+        checks.equal(f"generated: {event}", count, 0)
     deep = tallies["deep"]
     checks.true("generated: a reach of 4 links", deep.longest_reach >= 4)
     checks.true("generated: a gift over 4 links", deep.longest_gift >= 4)

@@ -250,7 +250,7 @@ def test_calls_refused(checks: Checks, options: Options) -> None:
 def test_counts_refused(checks: Checks, options: Options) -> None:
     check_cases(checks, COUNTED, COUNTED_CASES)
     for call in COUNTED_PASSING:
-        checks.equal(f"{call}: passes", more(allows(COUNTED), [call]), ["allow"])
+        checks.equal(f"{call}: passes", more(allows(COUNTED), [call]), ["allow 0"])
 
 
 def test_rules_refused(checks: Checks, options: Options) -> None:
@@ -413,14 +413,14 @@ def test_framing(checks: Checks, options: Options) -> None:
         ("call, 4 bytes", frame_bytes(CALL_TAG, start[3:-1]), "refused 3"),
         ("call, 261 bytes", long_call, "refused 3"),
         ("rule, 4 bytes", frame_bytes(FORBID_TAG, bytes(4)), "refused 3"),
-        ("whole", start, "allow"),
+        ("whole", start, "allow 0"),
     ]
     for name, data, expected in cases:
         lines = [str(answer) for answer in Tracker().run_log(data)]
         checks.equal(f"framing: {name}", lines, [expected])
-        if expected != "refused 1" and expected != "allow":
+        if expected != "refused 1" and expected != "allow 0":
             lines = [str(answer) for answer in Tracker().run_log(data + start)]
-            checks.equal(f"framing: {name}, then a call", lines, [expected, "allow"])
+            checks.equal(f"framing: {name}, then a call", lines, [expected, "allow 0"])
 
 
 def test_several_logs(checks: Checks, options: Options) -> None:
@@ -429,7 +429,7 @@ def test_several_logs(checks: Checks, options: Options) -> None:
     first = tracker.run_log(start + b"\x10")
     second = tracker.run_log(start)
     lines = [str(answer) for answer in first + second]
-    checks.equal("a cut ends its log only", lines, ["allow", "refused 1", "refused 7"])
+    checks.equal("a cut ends its log only", lines, ["allow 0", "refused 1", "refused 7"])
 
 
 def test_items_query(checks: Checks, options: Options) -> None:

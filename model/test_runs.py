@@ -1,7 +1,7 @@
 """The runs of document 01, those of Paper 1 of document 02, and the effects of single calls.
 
-Run B is that of Paper 2: its last line but one is `refused 14`. Run H is that of Paper 4: its
-unmap has b = 1.
+Run B is that of Paper 5: `allow` and `modify` end with how many containers gained an item. Its last
+line but one is that of Paper 2. Run H is that of Paper 4: its unmap has b = 1.
 """
 
 from typing import Dict, List, Set, Tuple, Union
@@ -17,7 +17,7 @@ RUN_B_INPUT = bytes.fromhex(
     "10 0005 0800000000 10 0005 0900010000 10 0005 0900020000 10 00"
 )
 RUN_B_OUTPUT = (
-    "allow\nallow\nallow\nrule 0\nallow\nallow\nmodify 0 3\nrefused 14\nrefused 1\n"
+    "allow 0\nallow 0\nallow 1\nrule 0\nallow 0\nallow 1\nmodify 0 3 1\nrefused 14\nrefused 1\n"
 )
 
 Records = List[Union[Call, Rule]]
@@ -48,7 +48,7 @@ def allows(records: Records) -> Tracker:
     """A tracker after records that are all allowed or loaded."""
     tracker, answers = run(records)
     for record, answer in zip(records, answers):
-        if answer != "allow" and not answer.startswith("rule"):
+        if answer.split()[0] not in ("allow", "rule"):
             raise AssertionError(f"{record} gets {answer}")
     return tracker
 
@@ -68,24 +68,24 @@ def test_run_b_program(checks: Checks, options: Options) -> None:
 
 def test_run_c_start_twice(checks: Checks, options: Options) -> None:
     tracker, answers = run([Call(Kind.START, 0), Call(Kind.START, 0)])
-    checks.equal("run C: answers", answers, ["allow", "refused 7"])
+    checks.equal("run C: answers", answers, ["allow 0", "refused 7"])
     checks.equal("run C: live", tracker.state.live, {0})
     checks.equal("run C: holdings", holdings(tracker), {})
 
 
 def test_run_d_last_process(checks: Checks, options: Options) -> None:
     tracker, answers = run([Call(Kind.START, 15), Call(Kind.START, 16)])
-    checks.equal("run D: answers", answers, ["allow", "refused 5"])
+    checks.equal("run D: answers", answers, ["allow 0", "refused 5"])
     checks.equal("run D: live", tracker.state.live, {15})
     checks.equal("run D: holdings", holdings(tracker), {})
 
 
 def test_run_e_create_range(checks: Checks, options: Options) -> None:
-    expected = {23: "refused 5", 64: "refused 5", 24: "allow", 63: "allow"}
+    expected = {23: "refused 5", 64: "refused 5", 24: "allow 0", 63: "allow 0"}
     for container, answer in expected.items():
         tracker, answers = run([Call(Kind.START, 0), Call(Kind.CREATE, 0, 0, 0, container)])
         checks.equal(f"run E: create with {container}", answers[1], answer)
-        bound = {0: container} if answer == "allow" else {}
+        bound = {0: container} if answer == "allow 0" else {}
         checks.equal(f"run E: names after {container}", tracker.state.names, bound)
         checks.equal(f"run E: holdings after {container}", holdings(tracker), {})
 
@@ -115,7 +115,8 @@ RUN_G = [
 
 def test_run_g_two_links(checks: Checks, options: Options) -> None:
     tracker, answers = run(RUN_G)
-    checks.equal("run G: answers", answers, ["allow"] * len(RUN_G))
+    gained = [0, 0, 0, 0, 0, 0, 0, 1, 3]  # the label alone, then the read over both links
+    checks.equal("run G: answers", answers, [f"allow {count}" for count in gained])
     checks.equal("run G: holdings", holdings(tracker), {8: {2}, 9: {2}, 24: {2}, 25: {2}})
     checks.equal("run G: links", tracker.state.links, {(8, 24), (24, 8), (24, 9)})
 
@@ -123,11 +124,11 @@ def test_run_g_two_links(checks: Checks, options: Options) -> None:
 def test_run_h_truncate(checks: Checks, options: Options) -> None:
     tracker = allows(RUN_G)
     before = tracker.state
-    checks.equal("run H: truncate mapped", more(tracker, [Call(Kind.TRUNCATE, 0, 0)]), ["allow"])
+    checks.equal("run H: truncate mapped", more(tracker, [Call(Kind.TRUNCATE, 0, 0)]), ["allow 0"])
     checks.equal("run H: nothing changes", tracker.state, before)
     unmap = Call(Kind.UNMAP, 0, 24, 1)
     answers = more(tracker, [unmap, Call(Kind.TRUNCATE, 0, 0)])
-    checks.equal("run H: unmap, truncate", answers, ["allow", "allow"])
+    checks.equal("run H: unmap, truncate", answers, ["allow 0", "allow 0"])
     checks.equal("run H: holdings", holdings(tracker), {8: {2}, 9: {2}, 25: {2}})
 
 
@@ -136,9 +137,9 @@ def test_run_i_end_of_use(checks: Checks, options: Options) -> None:
     used = [Call(Kind.START, 0), create, Call(Kind.LABEL, 0, 24, 1), Call(Kind.CLOSE, 0, 0)]
     tracker = allows(used)
     checks.equal("run I: after close", holdings(tracker), {24: {1}})
-    checks.equal("run I: unlink", more(tracker, [Call(Kind.UNLINK, 0, 5)]), ["allow"])
+    checks.equal("run I: unlink", more(tracker, [Call(Kind.UNLINK, 0, 5)]), ["allow 0"])
     checks.equal("run I: after unlink", holdings(tracker), {})
-    checks.equal("run I: create again", more(tracker, [create]), ["allow"])
+    checks.equal("run I: create again", more(tracker, [create]), ["allow 0"])
     checks.equal("run I: new file is empty", holdings(tracker), {})
 
 
@@ -148,7 +149,7 @@ LABELLED = [Call(Kind.START, 0), Call(Kind.CREATE, 0, 5, 0, 24), Call(Kind.LABEL
 def test_run_j_rename_same(checks: Checks, options: Options) -> None:
     tracker = allows(LABELLED)
     before = tracker.state.copy()
-    checks.equal("run J: answer", more(tracker, [Call(Kind.RENAME, 0, 5, 5)]), ["allow"])
+    checks.equal("run J: answer", more(tracker, [Call(Kind.RENAME, 0, 5, 5)]), ["allow 0"])
     checks.equal("run J: whole state", tracker.state, before)
 
 
@@ -270,7 +271,7 @@ def test_mapping(checks: Checks, options: Options) -> None:
         (Call(Kind.UNMAP, 0, 24, both), {(24, 8), (24, 9)}),
         (Call(Kind.UNMAP, 1, 24, read), {(24, 8)}),
     ):
-        checks.equal(f"{unmap}: answer", more(tracker, [unmap]), ["allow"])
+        checks.equal(f"{unmap}: answer", more(tracker, [unmap]), ["allow 0"])
         checks.equal(f"{unmap}: links", tracker.state.links, left)
     checks.equal("a mapped file keeps", holdings(tracker), holdings(allows(RUN_G)))
     more(tracker, [Call(Kind.UNMAP, 0, 24, read)])
@@ -305,13 +306,13 @@ def test_lowest_rule_decides(checks: Checks, options: Options) -> None:
     start = [Call(Kind.START, 0), Call(Kind.LABEL, 0, 8, 1), Call(Kind.DEVICE, 0, 0, 1)]
     write = Call(Kind.WRITE, 0, 0)
     cases = [
-        ("diverted", [forbid(1, [1], 1, 3)], "modify 0 3"),
+        ("diverted", [forbid(1, [1], 1, 3)], "modify 0 3 1"),
         ("lowest inhibits", [forbid(1, [1]), forbid(1, [1], 1, 3)], "inhibit 0"),
-        ("lowest diverts", [forbid(5, [1]), forbid(1, [1], 1, 3), forbid(1, [1])], "modify 1 3"),
+        ("lowest diverts", [forbid(5, [1]), forbid(1, [1], 1, 3), forbid(1, [1])], "modify 1 3 1"),
         ("to a forbidden one", [forbid(1, [1], 1, 3), forbid(1, [3])], "inhibit 0"),
         ("to the same", [forbid(1, [1], 1, 1)], "inhibit 0"),
-        ("confine diverts", [confine(1, [8, 4], 1, 4)], "modify 0 4"),
-        ("confine keeps", [confine(1, [8, 1])], "allow"),
+        ("confine diverts", [confine(1, [8, 4], 1, 4)], "modify 0 4 1"),
+        ("confine keeps", [confine(1, [8, 1])], "allow 1"),
     ]
     for name, rules, answer in cases:
         tracker = allows([*start, *rules])
@@ -329,7 +330,7 @@ def test_rules_see_whole_reach(checks: Checks, options: Options) -> None:
     answers = more(tracker, [Call(Kind.WRITE, 0, 1)])
     checks.equal("reach: substitute feeds 9", answers, ["inhibit 0"])
     tracker = allows(records + device[:2])
-    checks.equal("reach: diverted", more(tracker, [Call(Kind.WRITE, 0, 1)]), ["modify 0 24"])
+    checks.equal("reach: diverted", more(tracker, [Call(Kind.WRITE, 0, 1)]), ["modify 0 24 2"])
     checks.equal("reach: its gift", tracker.state.holders(1), [8, 9, 24])
 
 

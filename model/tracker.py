@@ -1,6 +1,6 @@
 """The tracker of document 01 as plain sets, dictionaries and graph search.
 
-Papers 1 to 4 of document 02 are in it.
+Papers 1 to 5 of document 02 are in it.
 
 A State is never changed once it is in a Tracker: each accepted record puts a
 new State in its place, so a caller may keep an earlier one.
@@ -28,9 +28,6 @@ class Answer(NamedTuple):
 
     def __str__(self) -> str:
         return " ".join([self.word, *map(str, self.numbers)])
-
-
-ALLOW = Answer("allow")
 
 
 def refused(refusal: Refusal) -> Answer:
@@ -280,6 +277,25 @@ def work_out(state: State, call: Call) -> State:
     EFFECTS[call.kind](after, call)
     after.empty_unused()
     return after
+
+
+# What a call spread: document 02, Paper 5.
+
+
+def gains(before: State, after: State) -> Dict[int, FrozenSet[int]]:
+    """The containers that hold an item now which they lacked before, each with all such items."""
+    new = {container: after.items[container] - before.items[container] for container in CONTAINERS}
+    return {container: items for container, items in new.items() if items}
+
+
+def allowed(before: State, after: State) -> Answer:
+    """The answer to a call that leads from one state to another as it stands."""
+    return Answer("allow", (len(gains(before, after)),))
+
+
+def modified(number: int, rule: Rule, before: State, after: State) -> Answer:
+    """The answer to a write that the rule of this number diverts; the gain is that made."""
+    return Answer("modify", (number, rule.substitute, len(gains(before, after))))
 
 
 # Refusals: document 01, What a record gets. All that apply are collected.
@@ -533,10 +549,11 @@ def judge(state: State, call: Call) -> Tuple[Answer, State]:
     after = work_out(state, call)
     broken = broken_rules(after)
     if not broken:
-        return ALLOW, after
+        return allowed(state, after), after
     rule = state.rules[broken[0]]
     if divert_obstacle(state, call, rule) is None:
-        return Answer("modify", (broken[0], rule.substitute)), divert(state, call, rule)
+        diverted = divert(state, call, rule)
+        return modified(broken[0], rule, state, diverted), diverted
     return Answer("inhibit", (broken[0],)), state
 
 

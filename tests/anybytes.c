@@ -1,7 +1,8 @@
 /* Monitors of any bytes, by what pomtvia.h promises of them: every function ends and stays within its memory, the ways of a call refuse the
- * same and with a number that fits the kind, a refused or inhibited call leaves every field as it was, mappings are counted up to 255, and
- * the two queries agree. The argument is how many monitors are tried. Writes how many calls were refused, inhibited and passed, and how many
- * got each number of a refusal; status 1 with a line where a promise is broken. */
+ * same and with a number that fits the kind, a refused or inhibited call leaves every field as it was, mappings are counted up to 255, the
+ * two queries agree, and where no rule is broken a call tells how many containers gained. The argument is how many monitors are tried.
+ * Writes how many calls were refused, inhibited and passed, how many got each number of a refusal, and by how many of those that passed no
+ * container gained, one, or more; status 1 with a line where a promise is broken. */
 #include <stdio.h>
 #include <stdlib.h>
 #include <string.h>
@@ -11,6 +12,11 @@
 enum { GUARD = 64, CODES = 24, LOG = 64, FIELDS = offsetof(struct pomtvia_monitor, fields) + 129 };
 enum { ITEMS_AT = 1, MAPPED_AT = 65, COUNTS_AT = 97, WORDS = 353 }; /* where the words have items, who maps what, and counts */
 enum { COUNTED = 16 }; /* of so many monitors two have their counts gone through */
+enum { GIVEN = 12 };   /* calls in a row whose gain is looked at */
+
+/* `modify 0 3 1` (document 02, Paper 5) */
+_Static_assert(POMTVIA_WORD(0x01030002u) == POMTVIA_MODIFY && POMTVIA_NUMBER(0x01030002u) == 0, "the two lowest bytes");
+_Static_assert(POMTVIA_SUBSTITUTE(0x01030002u) == 3 && POMTVIA_GAINED(0x01030002u) == 1, "the two highest bytes");
 
 /* What a function is lent, with bytes around it that it must leave. */
 struct lent {
@@ -26,6 +32,7 @@ struct lent {
 static uint64_t seed = 88172645463325252u;
 static unsigned long refused, inhibited, passed;
 static unsigned long numbers[256]; /* calls refused with each number */
+static unsigned long gains[3][3];  /* calls by word, and by whether no container gained, one, or more */
 
 static uint64_t any(void)
 {
@@ -86,6 +93,23 @@ static int is_refused(uint32_t answer)
     return POMTVIA_WORD(answer) == POMTVIA_REFUSED;
 }
 
+static int is_allowed(uint32_t answer)
+{
+    return POMTVIA_WORD(answer) == POMTVIA_ALLOW;
+}
+
+/* Whether the call is made, or a write instead of it. */
+static int is_made(uint32_t answer)
+{
+    return is_allowed(answer) || POMTVIA_WORD(answer) == POMTVIA_MODIFY;
+}
+
+/* Whether the count is one of containers, and 0 where no call is made. */
+static int counts_containers(uint32_t answer)
+{
+    return POMTVIA_GAINED(answer) <= (is_made(answer) ? POMTVIA_CONTAINERS : 0);
+}
+
 /* Whether a call of a kind can be refused with a number: the number tells what was missing. */
 static int can_get(unsigned kind, unsigned number)
 {
@@ -136,6 +160,7 @@ static void check_call(struct lent *l, const struct pomtvia_monitor *was)
         must(!is_refused(answers[0]) || answers[way] == answers[0], "a call is refused alike");
         must(is_refused(answers[0]) == is_refused(answers[way]), "a call is refused in every way");
         must(guarded(l), "a call stays within the monitor");
+        must(counts_containers(answers[way]), "a call counts containers, and none where it is stopped");
         unsigned number = POMTVIA_NUMBER(answers[way]);
         must(word != POMTVIA_REFUSED || can_get(r[3], number), "a call is refused with a number that fits its kind");
         numbers[number] += word == POMTVIA_REFUSED;
@@ -161,7 +186,7 @@ static unsigned unmapped(struct pomtvia_monitor *m, uint8_t p, uint8_t c, uint8_
 {
     unsigned n = 0;
     uint32_t answer;
-    while ((answer = asked(m, POMTVIA_UNMAP, p, c, sort)) == POMTVIA_ALLOW)
+    while (is_allowed(answer = asked(m, POMTVIA_UNMAP, p, c, sort)))
         must(++n <= POMTVIA_MAPPINGS, "no bytes count more than 255");
     must(answer == refused_with(POMTVIA_NO_LINK), "an unmap is refused where no mapping of its sort is left");
     return n;
@@ -201,18 +226,124 @@ static void check_counts(struct lent *l, const struct pomtvia_monitor *was)
     unsigned others = counted(m, p, c, other);
     unmapped(m, p, c, sort);
     for (unsigned n = 0; n < POMTVIA_MAPPINGS; n++)
-        must(asked(m, kind, p, d, 0) == POMTVIA_ALLOW, "255 mappings of a sort are allowed");
+        must(is_allowed(asked(m, kind, p, d, 0)), "255 mappings of a sort are allowed");
     check_full(m, kind, p, d);
-    must(asked(m, POMTVIA_UNMAP, p, c, sort) == POMTVIA_ALLOW, "one mapping less");
-    must(asked(m, POMTVIA_LABEL, 0, c, item) == POMTVIA_ALLOW, "a label");
+    must(is_allowed(asked(m, POMTVIA_UNMAP, p, c, sort)), "one mapping less");
+    must(is_allowed(asked(m, POMTVIA_LABEL, 0, c, item)), "a label");
     must(!pomtvia_items(m, (uint8_t)(POMTVIA_FIRST_PROCESS + p), &set) && set >> item & 1, "the item comes to the process all the same");
-    must(asked(m, kind, p, d, 0) == POMTVIA_ALLOW, "one mapping more");
+    must(is_allowed(asked(m, kind, p, d, 0)), "one mapping more");
     check_full(m, kind, p, d);
-    must(asked(m, POMTVIA_FORK, p, child, 0) == POMTVIA_ALLOW, "a fork");
+    must(is_allowed(asked(m, POMTVIA_FORK, p, child, 0)), "a fork");
     check_full(m, kind, child, d);
     must(counted(m, p, c, other) == others && counted(m, child, c, other) == others, "the other count is as it was");
     must(unmapped(m, child, c, sort) == POMTVIA_MAPPINGS && unmapped(m, p, c, sort) == POMTVIA_MAPPINGS, "each counts its own");
     must(guarded(l), "calls that count stay within the monitor");
+}
+
+/* What every container holds. */
+static void held(const struct pomtvia_monitor *m, uint64_t *sets)
+{
+    for (unsigned c = 0; c < POMTVIA_CONTAINERS; c++)
+        must(pomtvia_items(m, (uint8_t)c, &sets[c]) == 0, "items of a container");
+}
+
+/* How many containers hold an item that they lacked. */
+static unsigned gained(const struct pomtvia_monitor *m, const uint64_t *before)
+{
+    uint64_t after[POMTVIA_CONTAINERS];
+    unsigned n = 0;
+    held(m, after);
+    for (unsigned c = 0; c < POMTVIA_CONTAINERS; c++)
+        n += (after[c] & ~before[c]) != 0;
+    return n;
+}
+
+/* Fewer links and other items, so that calls reach some containers and some of these gain; a dead process holds nothing, as in every
+ * monitor that calls lead to; no rule. */
+static void thin(struct pomtvia_monitor *m)
+{
+    unsigned links = below(6), items = below(4);
+    for (size_t k = MAPPED_AT; k < COUNTS_AT; k++)
+        for (unsigned n = 0; n < links; n++)
+            m->words[k] &= any();
+    for (unsigned c = 0; c < POMTVIA_CONTAINERS; c++) {
+        uint64_t *set = &m->words[ITEMS_AT + c];
+        for (unsigned n = 0; n < items; n++)
+            *set &= any();
+        if (below(4) == 0)
+            *set = below(2) ? 0 : 0xFFFFFFFFFFFFFFFFu;
+        if (c >= POMTVIA_FIRST_PROCESS && c < POMTVIA_FIRST_FILE && !(m->words[0] >> (c - POMTVIA_FIRST_PROCESS) & 1))
+            *set = 0;
+    }
+    m->fields[128] = 0;
+}
+
+/* Process p is given an item, and a rule forbids it where descriptor d of the process leads. Most of these rules divert. */
+static void forbid(struct pomtvia_monitor *m, uint8_t p, uint8_t d)
+{
+    uint8_t c = m->descriptors[POMTVIA_DESCRIPTORS * p + d], item = below(POMTVIA_ITEMS), other = below(POMTVIA_DEVICES);
+    uint8_t r[POMTVIA_RECORD_MAX] = {POMTVIA_TAG_FORBID, 0, 11, item};
+    if (c >= POMTVIA_CONTAINERS)
+        return;
+    if (below(2))
+        other = (uint8_t)(POMTVIA_FIRST_FILE + below(POMTVIA_CONTAINERS - POMTVIA_FIRST_FILE));
+    m->words[ITEMS_AT + POMTVIA_FIRST_PROCESS + p] |= (uint64_t)1 << item;
+    m->words[ITEMS_AT + c] &= ~((uint64_t)1 << item);
+    r[4 + 7 - c / 8] = (uint8_t)(1 << c % 8);
+    r[12] = below(4) != 0;
+    r[13] = r[12] ? other : 0;
+    uint32_t answer = pomtvia_answer(m, r, sizeof r);
+    must(POMTVIA_WORD(answer) == POMTVIA_RULE || answer == refused_with(POMTVIA_BROKEN_ALREADY), "a rule is loaded or broken already");
+    must(counts_containers(answer), "a rule counts no container");
+}
+
+/* A call that may give something, or any. */
+static void ask(uint8_t *q, uint8_t p, uint8_t d)
+{
+    static const uint8_t giving[] = {POMTVIA_READ, POMTVIA_WRITE, POMTVIA_MAP_READ, POMTVIA_MAP_BOTH, POMTVIA_FORK, POMTVIA_LABEL};
+    unsigned kind = below(4) ? giving[below(sizeof giving)] : 1u + below(19);
+    memset(q, 0, 5);
+    q[0] = (uint8_t)kind;
+    q[1] = kind == POMTVIA_LABEL ? 0 : p;
+    if (kind != POMTVIA_START && kind != POMTVIA_EXIT)
+        q[2] = kind == POMTVIA_LABEL ? below(POMTVIA_CONTAINERS) : kind == POMTVIA_FORK ? below(POMTVIA_PROCESSES) : d;
+    if (kind == POMTVIA_LABEL || kind == POMTVIA_CREATE || kind == POMTVIA_RENAME)
+        q[3] = below(POMTVIA_DESCRIPTORS);
+    if (kind == POMTVIA_CREATE)
+        q[4] = (uint8_t)(POMTVIA_FIRST_FILE + below(POMTVIA_CONTAINERS - POMTVIA_FIRST_FILE));
+}
+
+/* Calls in a row where no rule is broken: in every way they tell how many containers gained, by the items before and after. */
+static void check_gains(struct lent *l, const struct pomtvia_monitor *was)
+{
+    struct pomtvia_monitor *m = &l->monitor, before;
+    uint64_t sets[POMTVIA_CONTAINERS];
+    uint8_t writer = below(POMTVIA_PROCESSES), d = below(POMTVIA_DESCRIPTORS);
+    memcpy(m, was, sizeof *m);
+    m->words[0] |= 1u << writer;
+    thin(m);
+    for (unsigned n = below(4); n > 0; n--)
+        forbid(m, writer, d);
+    for (int k = 0; k < GIVEN; k++) {
+        uint8_t r[8] = {POMTVIA_TAG_CALL, 0, 5};
+        ask(r + 3, below(2) ? writer : below(POMTVIA_PROCESSES), below(2) ? d : below(POMTVIA_DESCRIPTORS));
+        if (k == 0)
+            memcpy(r + 3, (uint8_t[]){POMTVIA_WRITE, writer, d, 0, 0}, 5);
+        before = *m;
+        held(m, sets);
+        for (int way = 0; way < 3; way++) {
+            *m = before;
+            uint32_t answer = way == 0   ? pomtvia_answer(m, r, sizeof r)
+                              : way == 1 ? pomtvia_on_call(m, r[3], r[4], r[5], r[6], r[7])
+                                         : pomtvia_call(m, r[3], r[4], r[5], r[6], r[7]);
+            unsigned n = POMTVIA_GAINED(answer);
+            must(counts_containers(answer), "a call counts containers, and none where it is stopped");
+            must(n == gained(m, sets), "a call tells how many containers gained");
+            if (is_made(answer))
+                gains[POMTVIA_WORD(answer)][n > 1 ? 2 : n]++;
+        }
+    }
+    must(guarded(l), "calls that give stay within the monitor");
 }
 
 /* Any log: bytes, or records of the tags. */
@@ -239,6 +370,8 @@ static void check_log(struct lent *l, const struct pomtvia_monitor *was)
         must(refusal == (room < records ? POMTVIA_SLICE_SHORT : 0), "a log is refused for its room alone");
         must(count == (refusal ? 999 : records), "a log has an answer for each record");
         must(!refusal || !memcmp(&l->monitor, was, FIELDS), "a refused log leaves every field");
+        for (size_t k = 0; !refusal && k < records; k++)
+            must(counts_containers(l->codes[k]), "a log's answers count containers, and none where nothing is made");
         for (size_t k = refusal ? 0 : records; k < CODES; k++)
             must(l->codes[k] == 0xEEEEEEEEu, "codes behind the answers are as they were");
         must(guarded(l), "a log stays within the monitor and the codes");
@@ -316,6 +449,7 @@ int main(int argc, char **argv)
         check_log(l, was);
         if (k % COUNTED < 2)
             check_counts(l, was);
+        check_gains(l, was);
         check_queries(l, was);
         memcpy(&l->monitor, was, sizeof *was);
         pomtvia_new(&l->monitor);
@@ -329,6 +463,8 @@ int main(int argc, char **argv)
     for (unsigned number = 0; number < 256; number++)
         if (numbers[number])
             printf("with %u: %lu\n", number, numbers[number]);
+    for (unsigned word = POMTVIA_ALLOW; word <= POMTVIA_MODIFY; word += POMTVIA_MODIFY - POMTVIA_ALLOW)
+        printf("gained by none %lu, by one %lu, by more %lu\n", gains[word][0], gains[word][1], gains[word][2]);
     free(l);
     free(was);
     return 0;

@@ -34,6 +34,7 @@ NEW = "new"
 GONE = "gone"
 STOPPED = "stopped"
 DONE = "done"  # of what a call moved
+GAINED = "gained"  # of a box, beside another mark
 NEVER = "never"  # a forbidden item
 EMPTY = (GONE, STOPPED, NEVER)  # chips without the item's colour
 SIGNS = {NEW: "+", GONE: "\u2212", STOPPED: "!"}  # in front of an item's number
@@ -45,6 +46,7 @@ text{font-family:"DejaVu Sans Mono",Menlo,Consolas,monospace;font-size:11px;fill
 .b{fill:#fff;stroke:#5b6672}
 .b.device{fill:#e8f0f9}
 .b.process{fill:#f2eef8}
+.b.gained{fill:#e3f4e6}
 .b.new{stroke:#0a7d2c;stroke-width:2.5}
 .b.gone{fill:#f4f5f6;stroke:#8b949c;stroke-dasharray:6 4}
 .b.stopped{stroke:#c81e1e;stroke-width:3}
@@ -99,7 +101,7 @@ class Content(NamedTuple):
     """What a box says."""
 
     container: int
-    mark: str
+    mark: str  # or two: GAINED may stand behind another
     sections: Tuple[Tuple[Token, ...], ...]
 
 
@@ -204,7 +206,8 @@ def content_of(view: View, words: Words, container: int) -> Content:
         sections.append(descriptor_section(view, container))
     else:
         sections.append(name_section(view, words, container))
-    return Content(container, view.mark(container), tuple(filter(None, sections)))
+    marks = [view.mark(container), GAINED if container in view.changes.gained else ""]
+    return Content(container, " ".join(filter(None, marks)), tuple(filter(None, sections)))
 
 
 # How it is drawn.

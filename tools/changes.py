@@ -2,9 +2,9 @@
 
 from typing import Dict, FrozenSet, List, NamedTuple, Optional, Tuple, TypeVar
 
-from model.limits import CONTAINERS, FILES
+from model.limits import FILES
 from model.records import Rule
-from model.tracker import MapKey, State
+from model.tracker import MapKey, State, gains
 from tools.provenance import Link
 
 Key = TypeVar("Key")
@@ -42,12 +42,6 @@ def moves(before: Dict[Key, int], after: Dict[Key, int]) -> "Moves[Key]":
     }
 
 
-def items_more(less: State, more: State) -> Dict[int, FrozenSet[int]]:
-    """What each container holds in one state and not in the other."""
-    pairs = ((container, more.items[container] - less.items[container]) for container in CONTAINERS)
-    return {container: items for container, items in pairs if items}
-
-
 def counts_moved(before: State, after: State) -> Dict[MapKey, Tuple[int, int]]:
     """The counts of mappings that are different now."""
     keys = sorted({*before.mappings, *after.mappings})
@@ -63,8 +57,8 @@ def changes_between(before: State, after: State) -> Changes:
         sorted(before.live - after.live),
         sorted(used_after - used),
         sorted(used - used_after),
-        items_more(before, after),
-        items_more(after, before),
+        gains(before, after),
+        gains(after, before),  # what was held before and no longer is
         counts_moved(before, after),
         sorted(after.links - before.links),
         sorted(before.links - after.links),

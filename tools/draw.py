@@ -3,9 +3,9 @@
 import textwrap
 from typing import Iterable, List, Tuple
 
-from tools.boxes import CHARACTER, CHIP_HEIGHT, COLOURS, DONE, GAP, GONE, LINE, NEVER, NEW, STOPPED
-from tools.boxes import STYLE, TEXT_SIZE, TITLE_SIZE, Content, Token, chip, element, number, path
-from tools.boxes import token_elements
+from tools.boxes import CHARACTER, CHIP_HEIGHT, COLOURS, DONE, GAINED, GAP, GONE, LINE, NEVER, NEW
+from tools.boxes import STOPPED, STYLE, TEXT_SIZE, TITLE_SIZE, Content, Token, chip, element, number
+from tools.boxes import path, token_elements
 from tools.explain import explain
 from tools.names import Own
 from tools.phrases import action_text, rule_text
@@ -44,6 +44,7 @@ COUNT_KEY = (
     f"on an arrow, {count_text(2, 0)}: mapped twice; {count_text(2, 1)}: twice for reading and "
     "once both ways; green: more often than before this record, amber: not so often"
 )
+GAIN_KEY = "a box on a green ground gained an item by this record"
 
 
 def printable(name: str) -> str:
@@ -143,6 +144,8 @@ def foot(view: View, own: Own, width: float, y: float) -> Sheet:
         sheet.row(([chip(item)], words.own_name("item", item)) for item in named)
     sheet.row(([token], meaning) for token, meaning in KEY)
     arrow_key(sheet)
+    if view.changes.gained:
+        sheet.text(GAIN_KEY)
     if view.labels():
         sheet.text(COUNT_KEY)
     return sheet
@@ -202,12 +205,13 @@ def dot_string(lines: Iterable[str]) -> str:
 
 
 def dot_box(content: Content) -> str:
-    """A box as a node; an item is a number in brackets."""
+    """A box as a node, filled if it gained; an item is a number in brackets."""
     lines = [
         " ".join(f"[{token.text}]" if token.item >= 0 else token.text for token in section)
         for section in content.sections
     ]
-    return f"  c{content.container} [label={dot_string(lines)}];"
+    filled = ', style=filled, fillcolor="#e3f4e6"' if GAINED in content.mark.split() else ""
+    return f"  c{content.container} [label={dot_string(lines)}{filled}];"
 
 
 def dot_edge(link: Link, mark: str, view: View) -> str:

@@ -5,7 +5,7 @@ from typing import Dict, List, NamedTuple, Optional, Tuple
 from model.limits import RULE_LIMIT, Kind, Refusal
 from model.logtext import REFUSAL_WORDS, record_text
 from model.records import Call, Rule, encode
-from model.tracker import ALLOW, CONTAINER, DESCRIPTOR, LACKED, MAPPING, NAME, Answer
+from model.tracker import CONTAINER, DESCRIPTOR, LACKED, MAPPING, NAME, Answer
 from model.tracker import broken_places, broken_rules, divert, divert_obstacle, judge, load_rule
 from tools.changes import Changes, changes_between
 from tools.mappings import counted_lines, lasting_links, mapping_changes
@@ -31,6 +31,7 @@ class Explanation(NamedTuple):
     sentence: str  # the record in words
     meaning: str  # the answer in words
     why: List[Line]
+    gains: List[str]  # a line for each container that gained; these stand among the changes too
     changes: List[str]  # one at least, if only to say that nothing changed
 
 
@@ -179,9 +180,8 @@ def refusal_lines(words: Words, step: Step) -> List[Line]:
 # Changes.
 
 
-def item_changes(words: Words, step: Step, changes: Changes) -> List[str]:
-    """Who gained which items and over which links, and what was emptied."""
-    lines = []
+def gain_lines(words: Words, step: Step, changes: Changes) -> List[str]:
+    """The containers that gained, the nearest first, with the items, and the links on the way."""
     gains = []
     for container, items in changes.gained.items():
         paths = sorted({step.after.origins[container, item].path for item in items}, key=len)
@@ -189,10 +189,15 @@ def item_changes(words: Words, step: Step, changes: Changes) -> List[str]:
         along = f", over {joined(over)}" if over else ""
         text = f"{words.container(container)} gained {words.items(items)}{along}"
         gains.append((len(paths[0]), container, text))
-    lines += [text for _, _, text in sorted(gains)]
-    for container, items in changes.lost.items():
-        lines.append(f"{words.container(container)} was emptied: {words.items(items)} gone")
-    return lines
+    return [text for _, _, text in sorted(gains)]
+
+
+def loss_lines(words: Words, changes: Changes) -> List[str]:
+    """What was emptied."""
+    return [
+        f"{words.container(container)} was emptied: {words.items(items)} gone"
+        for container, items in changes.lost.items()
+    ]
 
 
 def descriptor_changes(words: Words, changes: Changes) -> List[str]:
@@ -222,13 +227,12 @@ def name_changes(words: Words, changes: Changes) -> List[str]:
     return lines
 
 
-def change_lines(words: Words, step: Step) -> List[str]:
+def change_lines(words: Words, step: Step, changes: Changes, gains: List[str]) -> List[str]:
     """All that a record changed, a line each; none if nothing."""
-    changes = changes_between(step.before.state, step.after.state)
     lines = [f"{words.process(process)} is live" for process in changes.started]
     lines += [f"{words.process(process)} is dead" for process in changes.ended]
     lines += [f"{words.container(container)} is in use" for container in changes.used]
-    lines += item_changes(words, step, changes)
+    lines += gains + loss_lines(words, changes)
     lines += mapping_changes(words, step, changes)
     lines += [f"link began: {words.link(*link)}" for link in changes.linked]
     lines += [f"link ended: {words.link(*link)}" for link in changes.unlinked]
@@ -280,13 +284,18 @@ def explain(step: Step, own: Own = NO_OWN) -> Explanation:
     words = Words(own, step.after.sorts)
     said = Words(own, step.before.sorts)
     done = isinstance(step.record, Call) and step.answer.word in DONE
-    changes = change_lines(words, step) or [idle_text(words, step) if done else "nothing"]
+    changed = changes_between(step.before.state, step.after.state)
+    gains = gain_lines(words, step, changed)
+    changes = change_lines(words, step, changed, gains)
+    if not changes:
+        changes = [idle_text(words, step) if done else "nothing"]
     return Explanation(
         step.number,
         record_text(step.data, SHOWN_BYTES),
         answer_text(step.answer),
-        sentence(said, step.record, step.before.state, step.answer == ALLOW),
+        sentence(said, step.record, step.before.state, step.answer.word == "allow"),
         answer_meaning(words, step.answer),
         why_lines(words, step),
+        gains,
         changes,
     )

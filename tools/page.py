@@ -51,7 +51,8 @@ def record_data(said: Explanation, word: str) -> Dict[str, Any]:
         "s": said.sentence,
         "m": said.meaning,
         "y": said.why,
-        "c": said.changes,
+        "g": said.gains,
+        "c": [change for change in said.changes if change not in said.gains],
     }
 
 

@@ -8,10 +8,10 @@ from typing import Any, Dict
 
 from model.limits import CALL_TAG, CONFINE_TAG, DEVICES, DIVERT_ACTION, FORBID_TAG, INHIBIT_ACTION
 from model.limits import KINDS, PROCESS_CONTAINERS, SEPARATE_TAG, Kind
-from model.logtext import FORMS
+from model.logtext import FORMS, counted
 from model.records import Call, Rule
 from model.tracker import Answer, State
-from tools.provenance import Origin
+from tools.provenance import DONE, Origin
 from tools.words import Words, set_words, sort_words
 
 
@@ -83,7 +83,7 @@ ACTIONS: Dict[int, str] = {
     DIVERT_ACTION: "a write that would break it is diverted to {substitute}",
 }
 
-# An answer.
+# An answer. Behind it stands how many containers gained, where any did.
 ANSWERS: Dict[str, str] = {
     "allow": "the call is done",
     "rule": "the rule is loaded, as rule {0}",
@@ -91,6 +91,8 @@ ANSWERS: Dict[str, str] = {
     "modify": "it would break rule {0}, and the write goes to {substitute} instead",
     "refused": "nothing is done",
 }
+
+GAINED = "{meaning}; {containers} gained an item"
 
 # Why a call that breaks a diverting rule is not diverted, by the model's words.
 OBSTACLES: Dict[str, str] = {
@@ -162,7 +164,11 @@ def sentence(words: Words, record: Any, state: State, done: bool) -> str:
 def answer_meaning(words: Words, answer: Answer) -> str:
     """An answer in words."""
     substitute = words.container(answer.numbers[1]) if answer.word == "modify" else ""
-    return ANSWERS[answer.word].format(*answer.numbers, substitute=substitute)
+    meaning = ANSWERS[answer.word].format(*answer.numbers, substitute=substitute)
+    gained = answer.numbers[-1] if answer.word in DONE else 0
+    if not gained:
+        return meaning
+    return GAINED.format(meaning=meaning, containers=counted(gained, "container"))
 
 
 def hop_text(words: Words, origin: Origin, done: bool) -> str:

@@ -13,8 +13,8 @@ from typing import Any, Dict, Iterator, List, NamedTuple, Optional, Set, Tuple
 from model.contents import gifts
 from model.limits import VALUE_LENGTHS, Kind, process_container
 from model.records import Call, decode, read_frame
-from model.tracker import ALLOW, CONTAINER, DESCRIPTOR, MAPPING, NAME, Answer, MapKey, State
-from model.tracker import Tracker, work_out
+from model.tracker import CONTAINER, DESCRIPTOR, MAPPING, NAME, Answer, MapKey, State, Tracker
+from model.tracker import allowed, work_out
 
 Link = Tuple[int, int]
 Thing = Tuple[Any, ...]  # that a call can find missing: the model's word for it and its numbers
@@ -173,7 +173,7 @@ def steps_of(log: bytes) -> Iterator[Step]:
         judged = None
         if isinstance(record, Call) and answer.word in BREAKING:
             worked = work_out(moment.state, record)
-            judged = moved_on(moment, worked, number, record, ALLOW)
+            judged = moved_on(moment, worked, number, record, allowed(moment.state, worked))
         after = next_moment(moment, tracker.state, number, record, answer)
         yield Step(number, data, record, answer, moment, after, judged)
         moment, position = after, end

@@ -16,6 +16,7 @@ from tools.words import Words
 INDENT = "    "
 TOGETHER = re.compile(
     "(record|process|container|device|file|pipe|item|name|descriptor|rule) [0-9]+| -> "
+    "|[0-9]+ containers? gained"
 )
 Other = Dict[int, str]  # the program's answers that are not the model's, by record
 SELECTION = f"numbers and runs of records as in 3,7-9, or {', '.join(ANSWERS)}"

@@ -51,12 +51,15 @@ EPILOG = f"""what goes in:
 
 {FORMS_HELP}
 what comes out, a line for each record:
-  allow                   the call is done
-  inhibit RULE            nothing is done: the call would break this rule
-  modify RULE SUBSTITUTE  the write would break this rule and goes to the substitute
-  rule NUMBER             the rule is loaded and has this number
-  refused NUMBER          nothing is done, for the first of these that applies:
+  allow GAINED     the call is done
+  inhibit RULE     nothing is done: the call would break this rule
+  modify RULE SUBSTITUTE GAINED
+                   the write would break this rule and goes to the substitute
+  rule NUMBER      the rule is loaded and has this number
+  refused NUMBER   nothing is done, for the first of these that applies:
 {REFUSAL_LINES}
+  GAINED is how many containers gained an item that they lacked; of modify, by the
+  write to the substitute. A forked child gains if its parent holds anything.
   After 'refused 1' reading ends. An empty log gives no line. For a log of more than
   {LOG_LIMIT:,} bytes there is one line, 'log too long'.
 
@@ -80,7 +83,8 @@ examples:
 """
 
 WORDS = """Each record goes to the program, and the program's answer stands in front of it:
-allow: the call is done. rule 0: the rule is loaded, as number 0.
+allow 1: the call is done, and 1 container gained an item that it lacked.
+rule 0: the rule is loaded, as number 0.
 inhibit 0: the call is not done, because rule 0 would be broken. These are marked with *."""
 
 NEXT = """Try next:

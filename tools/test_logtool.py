@@ -425,6 +425,8 @@ def test_help(checks: Checks, options: Options) -> None:
         text = result.output.decode()
         checks.equal(f"{name} --help: status", result.status, 0)
         checks.true(f"{name} --help: examples", f"  tools/logtool {name}" in text, text)
+        told = "how many containers gained" in text
+        checks.equal(f"{name} --help: the number", told, name in ("show", "explain"))
     shapes = command(["--help"]).output.decode()
     for form in logtext.FORMS:
         checks.true(f"--help: {form.word}", f"\n  {form.shape}\n" in shapes)
@@ -432,13 +434,13 @@ def test_help(checks: Checks, options: Options) -> None:
 
 def test_show(checks: Checks, options: Options) -> None:
     expected = (
-        "1  allow                           start 0\n"
-        "2  allow                           create 0 name=5 descriptor=0 container=24\n"
-        "3  allow                           label container=24 item=1\n"
+        "1  allow 0                         start 0\n"
+        "2  allow 0                         create 0 name=5 descriptor=0 container=24\n"
+        "3  allow 1                         label container=24 item=1\n"
         "4  rule 0                          forbid item=1 in=panel divert=port\n"
-        "5  allow                           device 0 descriptor=1 device=panel\n"
-        "6  allow                           read 0 descriptor=0\n"
-        "7  modify 0 3                      write 0 descriptor=1\n"
+        "5  allow 0                         device 0 descriptor=1 device=panel\n"
+        "6  allow 1                         read 0 descriptor=0\n"
+        "7  modify 0 3 1                    write 0 descriptor=1\n"
         "8  refused 14 (descriptor closed)  write 0 descriptor=2\n"
         "9  refused 1 (cut short)           raw 10 00  # cut short\n"
     )
@@ -531,8 +533,9 @@ def test_callbacks(checks: Checks, options: Options) -> None:
         checks.equal("callbacks: the first unmap ends all", stopped("callbacks"), [])
     shown = command(["show", os.path.join(ROOT, "logs", "callbacks.log.txt")]).output.decode()
     for line in (
-        " 9  allow                          unmap 0 container=24 read\n",
-        "14  allow                          unmap 0 container=24 both\n",
+        " 9  allow 0                        unmap 0 container=24 read\n",
+        "10  allow 2                        label container=24 item=2\n",
+        "14  allow 0                        unmap 0 container=24 both\n",
         "15  refused 16 (no link to unmap)  unmap 0 container=24 both\n",
     ):
         checks.true(f"callbacks: shows {line.strip()}", line in shown, shown)

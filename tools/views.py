@@ -1,10 +1,10 @@
 """What a picture shows: the moment after a record, and what that record changed or would have."""
 
-from typing import Dict, FrozenSet, Iterable, List, NamedTuple, Optional, Set
+from typing import Dict, FrozenSet, Iterable, List, NamedTuple, Optional, Set, Tuple
 
 from model.limits import CONTAINERS, DEVICES, DIVERT_ACTION, FORBID_TAG, MAP_SORTS
 from model.limits import PROCESS_CONTAINERS, process_container
-from model.tracker import ALLOW, State, broken_places, forbids
+from model.tracker import State, allowed, broken_places, forbids
 from tools.changes import Changes, changes_between
 from tools.provenance import BREAKING, DONE, Link, Moment, Step, fresh, gifts_of
 
@@ -64,7 +64,10 @@ class View(NamedTuple):
         if step is None or step.answer.word not in (*DONE, *BREAKING):
             return {}
         call, before = step.record, step.before.state
-        found = {pair: "stopped" for pair in gifts_of(call, ALLOW, before) if step.judged}
+        found: Dict[Tuple[Optional[int], int], str] = {}
+        if step.judged:
+            meant = allowed(before, step.judged.state)
+            found.update({pair: "stopped" for pair in gifts_of(call, meant, before)})
         if step.answer.word in DONE:
             found.update({pair: "done" for pair in gifts_of(call, step.answer, before)})
         return {

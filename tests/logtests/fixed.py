@@ -8,9 +8,10 @@ from typing import Dict, List, Tuple
 
 from model import ROOT
 from model.checks import Checks
-from model.limits import CALL_TAG, KINDS, LOG_LIMIT, VALUE_LENGTHS, Refusal
+from model.limits import CALL_TAG, CONTAINERS, DEVICES, KINDS, LOG_LIMIT, VALUE_LENGTHS, Refusal
 from model.logtext import assemble, assemble_line, split_records
-from model.records import frame_bytes
+from model.records import encode, frame_bytes
+from model.test_gains import everywhere, label
 from model.test_runs import RUN_B_INPUT, RUN_B_OUTPUT
 from tests.logtests.compare import SECONDS, difference, fault_in, model_lines, program_output
 from tests.logtests.randomlogs import largest_calls, largest_log, random_log
@@ -19,7 +20,7 @@ from tests.logtests.shorten import report
 RUNS = ROOT / "tests" / "logtests" / "runs.txt"
 RUN_NAMES = "CDEFGHIJKLMN"
 PAPERS = ROOT / "tests" / "logtests" / "papers.txt"
-PAPER_NUMBERS = {"2", "3", "4"}
+PAPER_NUMBERS = {"2", "3", "4", "5"}
 LOGS = ROOT / "logs"
 PAUSE = 0.05  # seconds between two pieces of an input
 CUT = f"refused {Refusal.CUT_SHORT}"
@@ -116,6 +117,16 @@ def test_later_papers(checks: Checks, program: str) -> None:
     numbers = {name.partition(":")[0].split()[1] for name in runs}
     checks.equal("papers of document 02", numbers, PAPER_NUMBERS)
     check_runs(checks, program, runs)
+
+
+def test_every_container(checks: Checks, program: str) -> None:
+    """Document 02, Paper 5: a label that all containers gain by, and one that all but one do."""
+    calls = everywhere()
+    last = DEVICES[-1]
+    calls += [label(last, 1), label(last, 1), label(24, 2), label(last, 2), label(last, 3)]
+    gained = [len(CONTAINERS), 0, len(CONTAINERS) - 1, 1, len(CONTAINERS)]
+    wanted = [f"allow {count}" for count in (*[0] * len(everywhere()), *gained)]
+    check_log(checks, "every container gains", program, b"".join(map(encode, calls)), wanted)
 
 
 def test_demonstration_logs(checks: Checks, program: str) -> None:

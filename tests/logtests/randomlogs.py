@@ -10,6 +10,7 @@ from model.limits import CALL_TAG, CONTAINERS, DEVICES, ITEMS, LOG_LIMIT, RULE_L
 from model.limits import Kind, process_container
 from model.logtext import split_records
 from model.records import Call, Rule, encode, forbid, frame_bytes, read_frame
+from model.tally import MANY
 from model.tracker import forbids, frame_refusals
 from tests.logtests.compare import difference, model_lines, program_output
 
@@ -244,8 +245,13 @@ class Result(NamedTuple):
     counts: Counter
 
 
+def many(answer: str) -> str:
+    """How many containers gained by a call, in words."""
+    return MANY[min(int(answer.split()[-1]), 2)]
+
+
 def counts_of(log: bytes, answers: List[str]) -> Counter:
-    """What the records got: words, refusals, kinds done, sorts unmapped, tags of rules, rules."""
+    """What the records got: words, refusals, kinds done, sorts unmapped, gains, rules by tag."""
     counts: Counter = Counter(records=len(answers))
     for record, answer in zip(split_records(log), answers):
         word = answer.split()[0]
@@ -258,6 +264,10 @@ def counts_of(log: bytes, answers: List[str]) -> Counter:
             counts[f"kind {record[3]}"] += 1
             if record[3] == Kind.UNMAP:
                 counts[f"unmap of sort {record[6]}"] += 1
+            if record[3] == Kind.FORK:
+                counts[f"fork, {many(answer)}"] += 1
+        if word in ("allow", "modify"):
+            counts[f"{word}, {many(answer)}"] += 1
     counts[f"table of {counts['rule']}"] += 1
     return counts
 

@@ -38,7 +38,7 @@ def judge_written(state, call):
         written = state.descriptors[call.process, call.a]
         seen.items[written] = after.items[written]
         if not right_broken_rules(seen):
-            return tracker.ALLOW, after
+            return tracker.allowed(state, after), after
     return right_judge(state, call)
 right_judge = tracker.judge
 tracker.judge = judge_written
@@ -169,7 +169,57 @@ def first_refusal(numbers):
     return full if full in numbers else right_first(numbers)
 tracker.first_refusal = first_refusal
 """,
+    "answers as before Paper 5": """
+tracker.allowed = lambda before, after: tracker.Answer("allow")
+tracker.modified = lambda n, rule, *states: tracker.Answer("modify", (n, rule.substitute))
+""",
+    "tells a number in inhibit": """
+right_judge = tracker.judge
+def judge(state, call):
+    answer, after = right_judge(state, call)
+    if answer.word == "inhibit":
+        answer = answer._replace(numbers=(*answer.numbers, 0))
+    return answer, after
+tracker.judge = judge
+""",
 }
+
+# Programs that tell another number of the containers that gained: document 02, Paper 5. What would
+# be counted twice in map both is no fault of a log: what lies in both reaches gains nothing there.
+TELLING = """
+right_judge = tracker.judge
+def judge(state, call):
+    answer, after = right_judge(state, call)
+    if answer.word in ("allow", "modify"):
+        told = count(state, call, answer, after)
+        answer = answer._replace(numbers=(*answer.numbers[:-1], int(told)))
+    return answer, after
+tracker.judge = judge
+def targets(state, call, answer):
+    there = state.descriptors.get((call.process, call.a))
+    if answer.word == "modify":
+        return [answer.numbers[1]]
+    if call.kind in (Kind.READ, Kind.MAP_READ):
+        return [call.caller]
+    known = {Kind.WRITE: [there], Kind.MAP_BOTH: [call.caller, there], Kind.LABEL: [call.a]}
+    return known.get(call.kind, [])
+def gained(state, after):
+    return tracker.gains(state, after)
+def count(state, call, answer, after):
+    return """
+TOLD: Dict[str, str] = {
+    "counts items": "sum(map(len, gained(state, after).values()))",
+    "counts the whole reach": "len(set().union(*map(state.reach, targets(state, call, answer))))",
+    "counts what changed": "sum(state.items[c] != after.items[c] for c in state.items)",
+    "counts one container at most": "bool(gained(state, after))",
+    "leaves out the receiver": "len({*gained(state, after)} - {*targets(state, call, answer)})",
+    "counts what held nothing before": "sum(not state.items[c] for c in gained(state, after))",
+    "tells 0 for a fork": "call.kind != Kind.FORK and len(gained(state, after))",
+    "tells 1 for every fork": "call.kind == Kind.FORK or len(gained(state, after))",
+    "tells the gain of a stopped write": "len(gained(state, tracker.work_out(state, call)))",
+    "tells 0 for a diverted write": "answer.word == 'allow' and len(gained(state, after))",
+}
+FAULTS.update({name: f"{TELLING}{told}\n" for name, told in TOLD.items()})
 
 PROGRAM = """#!{python} -S
 import sys

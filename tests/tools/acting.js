@@ -5,6 +5,9 @@ const noted = [];
 function note(action) {
   const texts = selector => [...document.querySelectorAll(selector)].map(found => found.textContent);
   const groups = [...document.querySelectorAll("#picture g:not(#headings):not(:empty)")];
+  const lists = [...document.querySelectorAll("#said h3")].map(heading =>
+    [heading.textContent, heading.nextElementSibling ? heading.nextElementSibling.textContent : ""]);
+  const listed = wanted => (lists.find(([heading]) => heading === wanted) || ["", ""])[1];
   noted.push({
     action,
     count: document.getElementById("count").textContent,
@@ -13,7 +16,9 @@ function note(action) {
     hash: location.hash,
     record: texts("#said h2")[0] || "",
     answer: texts("#said .answer")[0] || "",
-    changes: texts("#said ul")[0] || "",
+    changes: listed("changed"),
+    gains: listed("gained"),
+    tinted: groups.filter(group => group.querySelector("rect.b.gained")).map(group => group.id),
     disabled: [...document.querySelectorAll("button")].filter(b => b.disabled).map(b => b.id),
     groups: groups.map(group => group.id),
     wide: groups.flatMap(wideTexts),

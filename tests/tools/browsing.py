@@ -9,7 +9,7 @@ import signal
 import subprocess
 import tempfile
 from pathlib import Path
-from typing import Any, Dict, List, Optional, Tuple
+from typing import Any, Dict, List, Optional, Set, Tuple
 
 from model.generate import generate_records
 from tests.tools.drawing import crowded_log
@@ -88,6 +88,14 @@ def acted(
 # What the page must show.
 
 
+def gained_in(view: View) -> Set[str]:
+    """The boxes of the containers that hold an item after a record and lacked it before."""
+    if view.step is None:
+        return set()
+    before, after = view.step.before.state.items, view.step.after.state.items
+    return {f"container-{container}" for container in after if after[container] - before[container]}
+
+
 def expected(steps: List[Step], views: List[View], own: Own, here: int) -> Dict[str, Any]:
     """What the page must show after a record."""
     last = len(steps)
@@ -110,13 +118,16 @@ def expected(steps: List[Step], views: List[View], own: Own, here: int) -> Dict[
         "record": "",
         "answer": "",
         "changes": "",
+        "gains": "",
+        "tinted": gained_in(view),
     }
     if not any(step.answer.word not in ("allow", "rule") for step in steps[here:]):
         shown["disabled"].add("stop")
     if here:
         said = explain(steps[here - 1], own)
         shown.update(record=said.record, answer=f"{said.answer}: {said.meaning}")
-        shown["changes"] = "".join(said.changes)
+        shown["changes"] = "".join(line for line in said.changes if " gained " not in line)
+        shown["gains"] = "".join(line for line in said.changes if " gained " in line)
     return shown
 
 
@@ -158,7 +169,7 @@ def check_page(
         here = landing(steps, here, action)
         wanted = expected(steps, views, own, here)
         found = {key: shown[key] for key in wanted}
-        found.update(groups={*shown["groups"]}, disabled={*shown["disabled"]})
+        found.update({key: {*shown[key]} for key in ("groups", "disabled", "tinted")})
         wrong = {key: (found[key], wanted[key]) for key in wanted if found[key] != wanted[key]}
         title = f"{name}: {action[0]} {action[1]}"
         session.checks.true(f"{title}: shows record {here}", not wrong, f"got and expected {wrong}")

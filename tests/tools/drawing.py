@@ -72,6 +72,16 @@ def drawn_moves(svg: ElementTree.Element) -> Set[Tuple[int, int]]:
     return {(int(giver), int(target)) for giver, target in keys}
 
 
+def drawn_gains(svg: ElementTree.Element) -> Set[int]:
+    """The containers whose boxes are marked as gaining."""
+    return {
+        int(key.split("-")[1])
+        for key, group in groups_of(svg).items()
+        if key.startswith("container-")
+        and "gained" in group.find(f"{SVG}rect").get("class").split()
+    }
+
+
 def areas_of(svg: ElementTree.Element) -> List[Area]:
     """Where the boxes stand."""
     found = []
@@ -227,6 +237,12 @@ MARKED = [
     ("start 0\nexit 0", "container-8", {"b", "process", "gone"}),
     ("start 0\nlabel container=process0 item=3", "container-8", {"k", "new"}),
     ("start 0\nlabel container=process0 item=3\nexit 0", "container-8", {"k", "gone"}),
+    ("start 0\nlabel container=process0 item=3", "container-8", {"b", "process", "gained"}),
+    (
+        "start 0\nlabel container=process0 item=3\nfork 0 child=1",
+        "container-9",
+        {"b", "new", "gained"},
+    ),
     (
         "start 0\ndevice 0 descriptor=1 device=panel\nmap-both 0 descriptor=1",
         "link-8-1",
@@ -303,8 +319,49 @@ def test_marks(session: Session) -> None:
         later = groups_of(parsed(steps_of_text(text + "\nexit 15"), len(steps) + 1))
         found = sorts_in(later[key]) if key in later else set()
         session.checks.true(
-            f"{name}, one record on", not found & {"new", "gone", "stopped", "less"}, str(found)
+            f"{name}, one record on",
+            not found & {"new", "gone", "stopped", "less", "gained"},
+            str(found),
         )
+
+
+# The last record of each log, with the containers that gain by it.
+SHARED = (
+    "start 0\nstart 1\ncreate 0 name=5 descriptor=0 container=24\nopen 1 name=5 descriptor=0\n"
+    "map-read 0 descriptor=0\nmap-read 1 descriptor=0\n"
+)
+DIVERTED = (
+    "forbid item=3 in=panel divert=port\nstart 0\nlabel container=process0 item=3\n"
+    "device 0 descriptor=1 device=panel\nwrite 0 descriptor=1\n"
+)
+GAINS = [
+    ("", set()),
+    ("start 0", set()),
+    (SHARED, set()),
+    (SHARED + "label container=24 item=3", {8, 9, 24}),
+    (SHARED + "label container=24 item=3\nlabel container=24 item=3", set()),
+    (SHARED + "label container=process1 item=3\nlabel container=24 item=3", {8, 24}),
+    (SHARED + "label container=process0 item=3\nfork 0 child=7", {15}),
+    (SHARED + "label container=24 item=3\ntruncate 0 descriptor=0", set()),
+    (DIVERTED, {3}),
+    (DIVERTED + "write 0 descriptor=1", set()),
+    (DIVERTED.replace("divert=port", "inhibit"), set()),
+]
+
+
+def test_gains(session: Session) -> None:
+    """The boxes that gained are marked, in every form, and the mark is explained."""
+    for text, wanted in GAINS:
+        steps = steps_of_text(text)
+        name = f"gains of '{text.splitlines()[-1] if text else ''}'"
+        svg = parsed(steps, len(steps))
+        session.checks.equal(name, drawn_gains(svg), wanted)
+        key = [text.text for text in svg.iter(f"{SVG}text") if "gained an item by" in text.text]
+        session.checks.equal(f"{name}: it is explained", len(key), int(bool(wanted)))
+        session.checks.equal(f"{name}: layout", list(layout_faults(svg)), [])
+        lines = dot_text(steps, len(steps), "a log", NO_OWN).splitlines()
+        filled = {int(re.match("  c([0-9]+) ", line)[1]) for line in lines if "filled" in line}
+        session.checks.equal(f"{name}: in dot", filled, wanted)
 
 
 # What is mapped, each with what stands on the link afterwards, and its mark.

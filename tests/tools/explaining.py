@@ -27,7 +27,7 @@ ALL_OPEN = FILE + "".join(f"open 0 name=5 descriptor={d}\n" for d in range(1, 32
 
 # The last record of each log, and what must be said of it.
 SENTENCES = [
-    ("start 3", ["process 3 starts", "allow: the call is done", "process 3 is live"]),
+    ("start 3", ["process 3 starts", "allow 0: the call is done", "process 3 is live"]),
     (FILE + "open 0 name=5 descriptor=3", ["process 0 opens name 5 as descriptor 3"]),
     (
         FILE,
@@ -243,7 +243,7 @@ REFUSED = [
         [
             "name 128 is out of range; numbers for create there are 0 to 127",
             "container 23 is out of range; numbers for create there are 24 to 63",
-            "in its place this gets allow: create 0 name=0 descriptor=0 container=24",
+            "in its place this gets allow 0: create 0 name=0 descriptor=0 container=24",
         ],
     ),
     (
@@ -254,7 +254,7 @@ REFUSED = [
         "raw 10 0005 1307020300",
         [
             "field process is 7, and label does not use it; it must be 0",
-            "in its place this gets allow: label container=radio item=3",
+            "in its place this gets allow 1: label container=radio item=3",
         ],
     ),
     ("forbid item=64 in=1 inhibit", ["item 64 is out of range; items are 0 to 63"]),
@@ -272,7 +272,7 @@ REFUSED = [
     ),
     (LIVE + "exit 4", ["process 4 is not live; the only live one is 0"]),
     (LIVE + LIVE, ["refused 7 (taken)", "process 0 is live already; ones not live are 1 to 15"]),
-    (LIVE + "fork 0 child=0", ["process 0 is live already", "gets allow: fork 0 child=1"]),
+    (LIVE + "fork 0 child=0", ["process 0 is live already", "gets allow 0: fork 0 child=1"]),
     (
         FILE + "device 0 descriptor=0 device=panel",
         ["descriptor 0 of process 0 is open and leads to file 24; closed ones are 1 to 31"],
@@ -285,7 +285,7 @@ REFUSED = [
             "name 5 is bound and leads to file 24; unbound ones are 0 to 4, 6 to 127",
             "container 24 is in use by name 5 and descriptor 0 of process 0; "
             "free ones are 25 to 63",
-            "in its place this gets allow: create 0 name=0 descriptor=1 container=25",
+            "in its place this gets allow 0: create 0 name=0 descriptor=1 container=25",
         ],
     ),
     (
@@ -508,26 +508,44 @@ REFUSED = [
 CONFINED = "confine item=1 to=process0,24 inhibit\n" + PANEL
 OFFERS = [
     # Something new may have any free number.
-    ("start 16", ["allow: start 0"]),
-    (LIVE + "start 16", ["allow: start 1"]),
-    (LIVE + LIVE, ["allow: start 1"]),
-    (LIVE + "fork 0 child=16", ["allow: fork 0 child=1"]),
-    (FILE + "open 0 name=5 descriptor=32", ["allow: open 0 name=5 descriptor=1"]),
-    (FILE + "dup 0 from=0 to=0", ["allow: dup 0 from=0 to=1"]),
-    (FILE + "link 0 from=5 to=5", ["allow: link 0 from=5 to=0"]),
-    (LIVE + "pipe 0 descriptors=3,3 container=24", ["allow: pipe 0 descriptors=3,0 container=24"]),
-    (LIVE + "pipe 0 descriptors=32,0 container=24", ["allow: pipe 0 descriptors=1,0 container=24"]),
-    (FILE + "pipe 0 descriptors=0,0 container=24", ["allow: pipe 0 descriptors=1,2 container=25"]),
-    (FILE + "pipe 0 descriptors=32,0 container=24", ["allow: pipe 0 descriptors=1,2 container=25"]),
-    (LIVE + "pipe 0 descriptors=32,9 container=9", ["allow: pipe 0 descriptors=0,9 container=24"]),
-    (LIVE + "pipe 0 descriptors=32,32 container=9", ["allow: pipe 0 descriptors=0,1 container=24"]),
+    ("start 16", ["allow 0: start 0"]),
+    (LIVE + "start 16", ["allow 0: start 1"]),
+    (LIVE + LIVE, ["allow 0: start 1"]),
+    (LIVE + "fork 0 child=16", ["allow 0: fork 0 child=1"]),
+    (FILE + "open 0 name=5 descriptor=32", ["allow 0: open 0 name=5 descriptor=1"]),
+    (FILE + "dup 0 from=0 to=0", ["allow 0: dup 0 from=0 to=1"]),
+    (FILE + "link 0 from=5 to=5", ["allow 0: link 0 from=5 to=0"]),
+    (
+        LIVE + "pipe 0 descriptors=3,3 container=24",
+        ["allow 0: pipe 0 descriptors=3,0 container=24"],
+    ),
+    (
+        LIVE + "pipe 0 descriptors=32,0 container=24",
+        ["allow 0: pipe 0 descriptors=1,0 container=24"],
+    ),
+    (
+        FILE + "pipe 0 descriptors=0,0 container=24",
+        ["allow 0: pipe 0 descriptors=1,2 container=25"],
+    ),
+    (
+        FILE + "pipe 0 descriptors=32,0 container=24",
+        ["allow 0: pipe 0 descriptors=1,2 container=25"],
+    ),
+    (
+        LIVE + "pipe 0 descriptors=32,9 container=9",
+        ["allow 0: pipe 0 descriptors=0,9 container=24"],
+    ),
+    (
+        LIVE + "pipe 0 descriptors=32,32 container=9",
+        ["allow 0: pipe 0 descriptors=0,1 container=24"],
+    ),
     (
         FILE + "create 0 name=128 descriptor=32 container=23",
-        ["allow: create 0 name=0 descriptor=1 container=25"],
+        ["allow 0: create 0 name=0 descriptor=1 container=25"],
     ),
     # A field that is not used has one meaning.
-    ("raw 10 0005 0103000001", ["allow: start 3"]),
-    (PANEL + "raw 10 0005 0900010002", ["allow: write 0 descriptor=1"]),
+    ("raw 10 0005 0103000001", ["allow 0: start 3"]),
+    (PANEL + "raw 10 0005 0900010002", ["allow 1: write 0 descriptor=1"]),
     # Nobody knows which process, descriptor, name, container or item was meant.
     ("label container=64 item=1", []),
     (FILE + "label container=25 item=1", []),
@@ -548,7 +566,7 @@ OFFERS = [
     (READ_MAPPED + "unmap 0 container=25 read", []),
     (READ_MAPPED + "unmap 0 container=24 both", []),
     (READ_MAPPED + "unmap 0 container=24 sort=2", []),
-    (READ_MAPPED + "raw 10 0005 0d 00 18 00 01", ["allow: unmap 0 container=24 read"]),
+    (READ_MAPPED + "raw 10 0005 0d 00 18 00 01", ["allow 0: unmap 0 container=24 read"]),
     (READ_MAPPED + "raw 10 0005 0d 00 18 01 01", []),
     (FULL + "map-read 0 descriptor=0", []),
     (FULL + "create 0 name=6 descriptor=1 container=25\nmap-read 0 descriptor=0", []),
@@ -629,7 +647,8 @@ STOPPED = [
     (
         DIVERT + PANEL + "write 0 descriptor=1",
         [
-            "modify 0 3: it would break rule 0, and the write goes to device 3 (port) instead",
+            "modify 0 3 1: it would break rule 0, and the write goes to device 3 (port) instead; "
+            "1 container gained an item",
             "device 1 (panel) would hold item 1",
             "changed: device 3 (port) gained item 1",
         ],
@@ -665,6 +684,72 @@ STOPPED = [
             "this record: it would come in from outside, by a label of process 0",
         ],
     ),
+]
+
+# How far a call spread: its answer with the meaning, and a line for each container that gained.
+DONE = "the call is done"
+SHARED = (
+    BOTH_MAPPED + "start 1\nopen 1 name=5 descriptor=0\nmap-read 1 descriptor=0\n"
+    "create 0 name=6 descriptor=1 container=25\nmap-both 0 descriptor=1\n"
+)
+DIVERTED = "it would break rule 0, and the write goes to device 3 (port) instead"
+GAINED = [
+    (HELD, f"allow 1: {DONE}; 1 container gained an item", ["file 24 gained item 1"]),
+    (HELD + "label container=24 item=1", f"allow 0: {DONE}", []),
+    (
+        SHARED + "label container=24 item=1",
+        f"allow 4: {DONE}; 4 containers gained an item",
+        [
+            "file 24 gained item 1",
+            "process 0 gained item 1, over 24 -> process 0",
+            "process 1 gained item 1, over 24 -> process 1",
+            "file 25 gained item 1, over 24 -> process 0 -> 25",
+        ],
+    ),
+    (
+        SHARED + "label container=process1 item=1\nlabel container=24 item=1",
+        f"allow 3: {DONE}; 3 containers gained an item",
+        [
+            "file 24 gained item 1",
+            "process 0 gained item 1, over 24 -> process 0",
+            "file 25 gained item 1, over 24 -> process 0 -> 25",
+        ],
+    ),
+    (
+        HELD + "label container=24 item=2\nread 0 descriptor=0",
+        f"allow 1: {DONE}; 1 container gained an item",
+        ["process 0 gained items 1, 2"],
+    ),
+    (
+        HELD + "label container=process0 item=2\nmap-both 0 descriptor=0",
+        f"allow 2: {DONE}; 2 containers gained an item",
+        ["process 0 gained item 1", "file 24 gained item 2"],
+    ),
+    (
+        PANEL + "fork 0 child=2",
+        f"allow 1: {DONE}; 1 container gained an item",
+        ["process 2 gained item 1"],
+    ),
+    (FILE + "fork 0 child=2", f"allow 0: {DONE}", []),
+    (HELD + "truncate 0 descriptor=0", f"allow 0: {DONE}", []),
+    (PANEL + "exit 0", f"allow 0: {DONE}", []),
+    (
+        DIVERT + PANEL + "write 0 descriptor=1",
+        f"modify 0 3 1: {DIVERTED}; 1 container gained an item",
+        ["device 3 (port) gained item 1"],
+    ),
+    (
+        DIVERT + PANEL + "write 0 descriptor=1\nwrite 0 descriptor=1",
+        f"modify 0 3 0: {DIVERTED}",
+        [],
+    ),
+    (
+        FORBID + PANEL + "write 0 descriptor=1",
+        "inhibit 0: it would break rule 0, and nothing is done",
+        [],
+    ),
+    (FORBID, "rule 0: the rule is loaded, as rule 0", []),
+    (HELD + FORBID.replace("panel", "24"), "refused 12 (broken already): nothing is done", []),
 ]
 
 
@@ -732,6 +817,17 @@ def test_moods(session: Session) -> None:
     """What is done is said to be done, and what is not is not."""
     for log, wanted in MOODS:
         session.checks.equal(f"in words: {log.splitlines()[-1]}", said_of(log).sentence, wanted)
+
+
+def test_gained(session: Session) -> None:
+    """Who gained by a record, and nothing of it where none did."""
+    for log, answer, lines in GAINED:
+        said = said_of(log)
+        name = f"gained: {log.splitlines()[-1]}"
+        session.checks.equal(f"{name}: the answer", f"{said.answer}: {said.meaning}", answer)
+        session.checks.equal(f"{name}: who", said.gains, lines)
+        among = [line for line in said.changes if " gained " in line]
+        session.checks.equal(f"{name}: among the changes", among, lines)
 
 
 # The command.
@@ -855,11 +951,12 @@ def test_wrong_program(session: Session) -> None:
         for words in ([], ["--brief"], ["--only", "2"], ["--way", "26,1"]):
             result = logtool("explain", log, "--program", wrong, *words)
             session.checks.equal(f"a wrong program, {words}: status", result.status, 4)
-            parts = ["record 28 (write 1 descriptor=1)", "'allow'", "'inhibit 0'", "keep this log"]
+            parts = ["record 10 (label container=24 item=1)", "'allow 2'", "'allow 4'"]
+            parts += ["4 more records differ", "keep this log"]
             good = all(part in result.message for part in parts)
             session.checks.true(f"a wrong program, {words}: message", good, result.message)
         result = logtool("explain", log, "--program", wrong, "--only", "28")
-        good = "the program answers otherwise: allow" in result.output
+        good = "the program answers otherwise: allow 0\n" in result.output
         session.checks.true("a wrong program: the record is marked", good, result.output)
         script = f"#!/bin/sh\n{session.standin} | sed 's/^inhibit/allow/'\n"
         counts = {"rowers": "1 more record differs", "evaluation": "2 more records differ"}

@@ -1,13 +1,14 @@
 """Properties of explain and draw on many random logs, checked by means of their own."""
 
+import re
 from collections import Counter
 from typing import Any, Callable, Dict, Iterator, List, Optional, Set, Tuple
 from xml.etree import ElementTree
 
 from model import tracker
 from model.choices import Choices
-from model.limits import CONTAINERS, DEVICES, FILES, FORBID_TAG, KINDS, RECORD_REFUSALS, Kind
-from model.limits import process_container
+from model.limits import CONTAINERS, DEVICES, FILES, FORBID_TAG, ITEMS, KINDS, RECORD_REFUSALS
+from model.limits import Kind, process_container
 from model.logtext import assemble_line
 from model.records import Call, Rule, encode, read_frame
 from model.tracker import State, Tracker, frame_refusals
@@ -168,6 +169,54 @@ def change_faults(step: Step, said: Explanation) -> Iterator[str]:
         yield f"record {step.number}: {said.changes} for {wanted}"
     if step.answer.word not in (*DONE, "rule") and before != after:
         yield f"record {step.number}: {step.answer} changed the state"
+
+
+# Who gained, by the items before and after.
+
+GAIN = re.compile(
+    r"(process|device|file|pipe) (\d+)(?: \(\w+\))? gained items? ([^>]*?)(?:, over .*)?"
+)
+
+
+def gained_by(step: Step) -> Dict[int, Set[int]]:
+    """The items that each container gained; those that gained none are left out."""
+    before, after = step.before.state.items, step.after.state.items
+    found = {c: {i for i in ITEMS if i in after[c] and i not in before[c]} for c in CONTAINERS}
+    return {container: items for container, items in found.items() if items}
+
+
+def read_items(text: str) -> Set[int]:
+    """The items of a row, as in 1, 3 to 5."""
+    found: Set[int] = set()
+    for first, last in re.findall(r"(\d+)(?: to (\d+))?", text):
+        found.update(range(int(first), int(last or first) + 1))
+    return found
+
+
+def read_gains(lines: List[str]) -> Dict[int, Set[int]]:
+    """The containers that lines say gained, each with its items."""
+    found: Dict[int, Set[int]] = {}
+    for line in lines:
+        sort, number, items = GAIN.fullmatch(line).groups()
+        container = process_container(int(number)) if sort == "process" else int(number)
+        found[container] = read_items(items)
+    return found
+
+
+def gain_faults(step: Step, said: Explanation) -> Iterator[str]:
+    """Whether those that gained are said, each with its items, and how many they are."""
+    gained = gained_by(step)
+    if len(said.gains) != len(gained) or read_gains(said.gains) != gained:
+        yield f"record {step.number}: {said.gains} for {gained}"
+    if not {*said.gains} <= {*said.changes}:
+        yield f"record {step.number}: {said.gains} is not among the changes"
+    told = re.findall(r"; (\d+) containers? gained an item$", said.meaning)
+    if told != [str(len(gained))] * bool(gained):
+        yield f"record {step.number}: '{said.meaning}' for {gained}"
+    numbers = {"allow": [len(gained)], "modify": [*step.answer.numbers[:2], len(gained)]}
+    wanted = [step.answer.word, *map(str, numbers.get(step.answer.word, step.answer.numbers[:1]))]
+    if said.answer.split(" (")[0] != " ".join(wanted):
+        yield f"record {step.number}: '{said.answer}' for {gained}"
 
 
 # Refusals.
@@ -353,6 +402,7 @@ def step_faults(steps: List[Step], step: Step, choices: Choices, ledger: Ledger)
     """What is wrong with what is said of a record."""
     said = explain(step)
     yield from change_faults(step, said)
+    yield from gain_faults(step, said)
     yield from mapping_faults(step, said, ledger)
     if step.answer.word == "refused":
         yield from refusal_faults(step, said, choices)
@@ -398,12 +448,22 @@ def picture_faults(steps: List[Step], at: int) -> Iterator[str]:
     inner = {pair for pair in given if pair[0] is not None and step.record.kind != Kind.FORK}
     if step is not None and step.answer.word == "allow" and drawing.drawn_moves(svg) != inner:
         yield f"at {at}: what the call moved"
+    gained = {} if step is None else gained_by(step)
+    if drawing.drawn_gains(svg) != {*gained}:
+        yield f"at {at}: marked as gaining {drawing.drawn_gains(svg)} for {gained}"
     for fault in drawing.layout_faults(svg):
         yield f"at {at}: {fault}"
     for container in sorted(drawn):
         held = drawing.drawn_items(svg, container)
         if held != set(state.items[container]):
             yield f"at {at}: container {container} holds {sorted(held)} in the picture"
+
+
+def tinted(scene: Dict[str, Tuple[str, ...]]) -> Set[int]:
+    """The containers whose boxes are marked as gaining, by the elements of a page."""
+    frames = {key: group[0] for key, group in scene.items() if key.startswith("container-")}
+    marked = [key for key, frame in frames.items() if re.search(r'class="b[^"]* gained"', frame)]
+    return {int(key.split("-")[1]) for key in marked}
 
 
 def page_faults(steps: List[Step]) -> Iterator[str]:
@@ -420,6 +480,15 @@ def page_faults(steps: List[Step]) -> Iterator[str]:
         }
         if shown != painter.scene(view, boxes):
             yield f"page, record {number}: another picture"
+        gained = gained_by(steps[number - 1]) if number else {}
+        if tinted(shown) != {*gained}:
+            yield f"page, record {number}: marked as gaining {tinted(shown)} for {gained}"
+    for step, record in zip(steps, data["records"]):
+        if read_gains(record["g"]) != gained_by(step):
+            yield f"page, record {step.number}: {record['g']} for {gained_by(step)}"
+        rest = [line for line in explain(step).changes if " gained " not in line]
+        if record["c"] != rest:
+            yield f"page, record {step.number}: {record['c']} for {rest}"
     if [record["a"].split(" (")[0] for record in data["records"]] != [str(s.answer) for s in steps]:
         yield "page: answers"
 
@@ -463,6 +532,7 @@ def test_properties(session: Session) -> None:
             if s.answer.word == "allow" and s.record.kind == Kind.UNMAP
             for line in explain(s).changes
         )
+        counts["gains"] += sum(len(gained_by(s)) > 1 for s in steps)
         counts["hops"] += sum(
             len(chain(way)) for s in steps[-1:] for way in s.after.origins.values()
         )
@@ -473,7 +543,7 @@ def test_properties(session: Session) -> None:
 
 def check_counts(session: Session, counts: Counter) -> None:
     """The logs must contain what the properties speak of."""
-    said = (*WORDS, "hops", "offers", "links that stay")
+    said = (*WORDS, "hops", "offers", "links that stay", "gains")
     session.say(", ".join(f"{word} {counts[word]}" for word in said))
     if session.logs < 500:
         session.say("fewer than 500 logs: how often each answer occurs is not checked")
@@ -484,6 +554,7 @@ def check_counts(session: Session, counts: Counter) -> None:
         session.checks.true(f"random logs: {name}", counts[name] >= 20, f"{counts[name]} times")
     session.checks.true("random logs: hops", counts["hops"] > 2000, str(counts["hops"]))
     session.checks.true("random logs: offers", counts["offers"] > 500, str(counts["offers"]))
+    session.checks.true("random logs: gains", counts["gains"] > 200, str(counts["gains"]))
 
 
 def test_program(session: Session) -> None:

@@ -72,6 +72,32 @@ def draws_no_counts(right: Callable) -> Callable:
     return lambda view: {}
 
 
+def tells_one_more(right: Callable) -> Callable:
+    """One container too many is said to have gained."""
+
+    def answer_meaning(words: Any, answer: Any) -> str:
+        more = answer.word in ("allow", "modify") and answer.numbers[-1] > 0
+        told = (*answer.numbers[:-1], answer.numbers[-1] + 1)
+        return right(words, answer._replace(numbers=told) if more else answer)
+
+    return answer_meaning
+
+
+def all_held(right: Callable) -> Callable:
+    """Whoever holds anything is said to have gained it all."""
+    return lambda before, after: {c: items for c, items in after.items.items() if items}
+
+
+def no_mark(right: str) -> str:
+    """No box is marked."""
+    return "marked"
+
+
+def lists_nobody(right: Callable) -> Callable:
+    """The page does not list those that gained."""
+    return lambda *given: {**right(*given), "g": []}
+
+
 def forgets_closed(right: Callable) -> Callable:
     """Entries that lead nowhere any more are left out."""
     return lambda *given: {key: ends for key, ends in right(*given).items() if ends[1] is not None}
@@ -87,7 +113,8 @@ def promises(right: Callable) -> Callable:
 
     def mended_lines(*given: Any) -> List[Tuple[int, str]]:
         return [
-            (depth, re.sub("gets rule [0-9]+", "gets allow", text)) for depth, text in right(*given)
+            (depth, re.sub("gets rule [0-9]+", "gets allow 0", text))
+            for depth, text in right(*given)
         ]
 
     return mended_lines
@@ -151,6 +178,11 @@ WRONG: Dict[str, Tuple[Any, str, Maker]] = {
     "forgets what ended": (provenance, "gone", forgets_ends),
     "forgets closed entries": (changes, "moves", forgets_closed),
     "does not say the last change": (explain, "change_lines", leaves_out_last),
+    "tells one more that gained": (explain, "answer_meaning", tells_one_more),
+    "does not say one that gained": (explain, "gain_lines", leaves_out_last),
+    "says that all who hold gained": (changes, "gains", all_held),
+    "marks no box that gained": (boxes, "GAINED", no_mark),
+    "lists nobody on the page": (page, "record_data", lists_nobody),
     "promises to allow": (explain, "mended_lines", promises),
     "offers what is stopped": (explain, "OFFERED", every_answer),
     "offers another thing than was meant": (reasons, "free_numbers", any_number),

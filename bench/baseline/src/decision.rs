@@ -4,12 +4,14 @@ use crate::call::{Act, Call};
 use crate::numbers::{Container, Refusal};
 use crate::record::Record;
 use crate::rules::{Action, Rule, Rules};
-use crate::state::{Flow, State};
+use crate::state::{Effect, Flow, State};
 
 pub enum Answer {
-    Allow,
+    /// With how many containers gained.
+    Allow(u8),
     Inhibit(u8),
-    Modify(u8, Container),
+    /// With the rule, where the write went, and how many containers gained by that.
+    Modify(u8, Container, u8),
     Loaded(u8),
     Refused(Refusal),
 }
@@ -40,22 +42,24 @@ impl Monitor {
     }
 
     fn call(&mut self, call: Call) -> Result<Answer, Refusal> {
-        let effect = self.state.admit(call)?;
-        Ok(match self.rules.lowest_broken(&self.state, &effect.flow) {
-            None => {
-                self.state.apply(&effect);
-                Answer::Allow
+        let Effect { flow, change } = self.state.admit(call)?;
+        let mut gained = 0;
+        if !flow.gainers().is_empty() {
+            if let Some((number, action)) = self.rules.lowest_broken(&self.state, &flow) {
+                return Ok(self.stop(call, number, action));
             }
-            Some((number, action)) => self.stop(call, number, action),
-        })
+            gained = self.state.give(&flow);
+        }
+        self.state.change(change);
+        Ok(Answer::Allow(gained))
     }
 
     /// A rule stops the call: a write is diverted if it can be, all else is inhibited.
     fn stop(&mut self, call: Call, number: u8, action: Action) -> Answer {
         match self.diversion(call, action) {
             Some((flow, substitute)) => {
-                self.state.give(&flow);
-                Answer::Modify(number, substitute)
+                let gained = self.state.give(&flow);
+                Answer::Modify(number, substitute, gained)
             }
             None => Answer::Inhibit(number),
         }

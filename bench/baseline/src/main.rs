@@ -1,12 +1,13 @@
 //! The log program without proofs: a log on standard input, a line for each record on standard output.
 //!
 //! It is what docs/BENCH.md measures the proved program beside. The rules it follows are those of document 01, with
-//! Papers 2 to 4 of document 02.
+//! Papers 2 to 5 of document 02.
 
 #![forbid(unsafe_code)]
 
 mod call;
 mod decision;
+mod lines;
 mod numbers;
 mod record;
 mod rules;
@@ -20,55 +21,23 @@ use std::mem;
 use std::os::unix::io::AsFd;
 use std::process::ExitCode;
 
-use decision::{Answer, Monitor};
+use decision::Monitor;
+use lines::Lines;
 use record::Log;
 
 const LOG_LIMIT: usize = 65_536;
-const FLUSH_AT: usize = 4_000;
-const LONGEST_LINE: usize = "modify 31 63\n".len();
-
-/// Appends a number below 100.
-fn push_number(out: &mut Vec<u8>, n: u8) {
-    if n >= 10 {
-        out.push(b'0' + n / 10);
-    }
-    out.push(b'0' + n % 10);
-}
-
-/// Appends a word, a number and the end of the line.
-fn push_line(out: &mut Vec<u8>, word: &[u8], n: u8) {
-    out.extend_from_slice(word);
-    push_number(out, n);
-    out.push(b'\n');
-}
-
-/// Appends the line of an answer.
-fn push_answer(out: &mut Vec<u8>, answer: Answer) {
-    match answer {
-        Answer::Allow => out.extend_from_slice(b"allow\n"),
-        Answer::Inhibit(rule) => push_line(out, b"inhibit ", rule),
-        Answer::Loaded(rule) => push_line(out, b"rule ", rule),
-        Answer::Refused(refusal) => push_line(out, b"refused ", refusal as u8),
-        Answer::Modify(rule, substitute) => {
-            out.extend_from_slice(b"modify ");
-            push_number(out, rule);
-            push_line(out, b" ", substitute.number());
-        }
-    }
-}
 
 /// Answers a log on a fresh monitor.
 fn answer_log(log: &[u8], output: &mut impl Write) -> io::Result<()> {
     let mut monitor = Monitor::new();
-    let mut lines = Vec::with_capacity(FLUSH_AT + LONGEST_LINE);
+    let mut lines = Lines::new();
     for record in Log::new(log) {
-        push_answer(&mut lines, monitor.answer(record));
-        if lines.len() > FLUSH_AT {
-            output.write_all(&lines)?;
-            lines.clear();
+        lines.push(monitor.answer(record));
+        if lines.is_full() {
+            output.write_all(lines.take())?;
         }
     }
-    output.write_all(&lines)
+    output.write_all(lines.take())
 }
 
 /// A standard stream without the library's own buffer.

@@ -114,6 +114,7 @@ impl Rules {
     }
 
     /// The number and the action of the lowest rule that the flow would break.
+    #[inline(always)]
     pub fn lowest_broken(&self, state: &State, flow: &Flow) -> Option<(u8, Action)> {
         if flow.items().meets(self.watched) {
             self.lowest_of_all(state, flow)
@@ -123,6 +124,7 @@ impl Rules {
     }
 
     /// The same for a flow of items that rules speak of.
+    #[inline(never)]
     fn lowest_of_all(&self, state: &State, flow: &Flow) -> Option<(u8, Action)> {
         if !flow.gainers().members().any(|n| self.is_broken_at(Container::member(n), state, flow)) {
             return None;

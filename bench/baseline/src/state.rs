@@ -51,7 +51,7 @@ impl From<Gift> for Flow {
 
 /// What a call does to the tables.
 #[derive(Clone, Copy)]
-enum Change {
+pub enum Change {
     Nothing,
     Start(Process),
     Open(Process, Descriptor, Container),
@@ -72,7 +72,7 @@ enum Change {
 #[derive(Clone, Copy)]
 pub struct Effect {
     pub flow: Flow,
-    change: Change,
+    pub change: Change,
 }
 
 fn refuse_if(condition: bool, refusal: Refusal) -> Result<(), Refusal> {

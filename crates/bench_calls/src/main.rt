@@ -1,18 +1,19 @@
 // Runs calls on the arrays of a fresh tracker where they lie, without a copy: what bench/run measures. Standard input is as test_calls reads it,
-// and a line is written for each call, 0 or the refusal's number.
+// and a line is written for each call, 0 or the refusal's number; at the end one more, the set of all containers that gained in some call.
 use libc::STDIN_FILENO;
 use libc::STDOUT_FILENO;
 use tracker::Call;
 use tracker::Tracker;
 use tracker::calls::work;
 
-// Writes what a call got.
-fn say(n: u8) {
-    io::print_decimal(STDOUT_FILENO, n as u64);
+// Writes a number on a line of its own.
+fn say(n: u64) {
+    io::print_decimal(STDOUT_FILENO, n);
     io::write_all(STDOUT_FILENO, b"\n");
 }
 
 fn run(calls: &[u8]) {
+    let mut gained = 0u64;
     let mut words = [0u64; 353];
     let mut descriptors = [Tracker::CLOSED; 512];
     let mut names = [Tracker::CLOSED; 128];
@@ -25,9 +26,11 @@ fn run(calls: &[u8]) {
             b: calls[at + 3],
             c: calls[at + 4],
         };
-        let n = work(&mut words, &mut descriptors, &mut names, q);
-        say(n);
+        let made = work(&mut words, &mut descriptors, &mut names, q);
+        gained = gained | made.gained;
+        say(made.refusal as u64);
     }
+    say(gained);
 }
 
 fn main() {

@@ -11,7 +11,7 @@ use Rattle.flow.specs.Calls.{Call, Change, change, after}
 use Rattle.flow.specs.Rules.{lowestBroken}
 use Rattle.flow.specs.Records.{Reading, unreadable, aCall, aRule, reading}
 use Rattle.flow.specs.Refusals.{callTests, ruleTests, testsOf}
-use Rattle.flow.specs.Verdicts.{refuses, loads, allows, inhibits, modifies, verdictBy, verdict, stopped, outcomeOfCall, outcomeOfRule, outcomeOf, answerOf, withRule, stateAfter}
+use Rattle.flow.specs.Verdicts.{refuses, loads, allows, inhibits, modifies, gainedFrom, verdictBy, verdictAt, verdict, stopped, outcomeOfCall, outcomeOfRule, outcomeOf, gainedBy, answerOf, withRule, stateAfter}
 use Rattle.flow.proofs.Outcomes.{accepted-rule}
 use Rattle.flow.proofs.Judging.{none-broken, one-more}
 use Rattle.records.specs.declared.Record.{Record}
@@ -21,7 +21,7 @@ use Rattle.decision.specs.declared.Monitor.{Monitor}
 use Rattle.decision.specs.declared.Answer.the-variants.{Refused, Loaded, Allow, Inhibit, Modify}
 use Rattle.decision.specs.declared.Answered.{Answered}
 use Rattle.decision.specs.View.{view}
-use Rattle.decision.specs.Answers.{wordOf, Sound, Answers, AnswersStopped}
+use Rattle.decision.specs.Answers.{wordOf, gainedIn, Sound, Answers, AnswersStopped}
 
 -- ---- outcomes
 call-refused : (s : State) (q : Option Call) (n : ℕ) → outcomeOfCall s q (some n) ≡ refuses n
@@ -52,7 +52,7 @@ some-only n k e = cc
 
 -- ---- refused
 pub refused-as : (m : Monitor) (x : Reading) (n : ℕ) → firstThat (testsOf (view m) x) ≡ some n → Answers m x (record { answer = Refused n; monitor = m })
-unfolding wordOf answerOf stateAfter
+unfolding wordOf gainedIn gainedBy answerOf stateAfter
 refused-as m x n e =
     let o : outcomeOf (view m) x ≡ refuses n = outcome-refused (view m) x n e in
     record {
@@ -60,6 +60,7 @@ refused-as m x n e =
       refused-kept = λ k d. refl;
       inhibited-kept = λ k d. refl;
       answer = λ h. sym (ap answerOf o);
+      gained = λ h. sym (ap gainedBy o);
       state = λ h. sym (ap (stateAfter (view m)) o);
       sound = λ h. h;
     }
@@ -71,16 +72,17 @@ module _ (m : Monitor) (q : Call) (e : firstThat (callTests (view m .tables) (so
   unfolding testsOf
   untested n d = let z : _≡_ {A = ℕ} 0 1 = cc in let y : ⊥ = omega arith in y
 
-  pub allowed-as : (t : Monitor) → view t ≡ after (view m) (change (view m .tables) q) → (Sound m → lowestBroken (after (view m) (change (view m .tables) q)) ≡ none)
-      → Answers m (aCall (some q)) (record { answer = Allow; monitor = t })
-  unfolding wordOf answerOf stateAfter verdict verdictBy Sound
-  allowed-as t v f =
-      let o : Sound m → outcomeOf (view m) (aCall (some q)) ≡ allows (change (view m .tables) q) = λ h. outcome-call (view m) q e ∙ ap (verdictBy (view m) q) (f h) in
+  pub allowed-as : (t : Monitor) (g : ℕ) → view t ≡ after (view m) (change (view m .tables) q) → (Sound m → lowestBroken (after (view m) (change (view m .tables) q)) ≡ none)
+      → g ≡ gainedFrom (view m) (after (view m) (change (view m .tables) q)) → Answers m (aCall (some q)) (record { answer = Allow g; monitor = t })
+  unfolding wordOf gainedIn gainedBy answerOf stateAfter verdict verdictAt verdictBy Sound
+  allowed-as t g v f i =
+      let o : Sound m → outcomeOf (view m) (aCall (some q)) ≡ allows (change (view m .tables) q) g = λ h. outcome-call (view m) q e ∙ ap (verdictBy (view m) q _) (f h) ∙ ap (allows (change (view m .tables) q)) (sym i) in
       record {
         refusal = λ k. (λ d. cc, λ d. absurd (untested k d));
         refused-kept = λ k d. cc;
         inhibited-kept = λ k d. cc;
         answer = λ h. sym (ap answerOf (o h));
+        gained = λ h. sym (ap gainedBy (o h));
         state = λ h. v ∙ sym (ap (stateAfter (view m)) (o h));
         sound = λ h. ap lowestBroken v ∙ f h;
       }
@@ -95,6 +97,7 @@ module _ (m : Monitor) (q : Call) (e : firstThat (callTests (view m .tables) (so
         refused-kept = λ n d. absurd (w .unrefused n d);
         inhibited-kept = w .inhibited-kept;
         answer = λ h. w .answer h ∙ sym (ap answerOf (o h));
+        gained = λ h. w .gained h ∙ sym (ap gainedBy (o h));
         state = λ h. w .state h ∙ sym (ap (stateAfter (view m)) (o h));
         sound = λ h. w .sound h;
       }
@@ -106,7 +109,7 @@ module _ (m t : Monitor) (r : Rule) (e : firstThat (ruleTests (view m) r) ≡ no
   loaded-sound v h = ap lowestBroken v ∙ none-broken (withRule (view m) r) (view m) (λ c i l d. d) 0 _ (one-more (view m) 0 (view m .rules) r h (accepted-rule (view m) r e .0))
 
   pub loaded-as : (n : ℕ) → n ≡ length (view m .rules) → view t ≡ withRule (view m) r → Answers m (aRule r) (record { answer = Loaded n; monitor = t })
-  unfolding wordOf answerOf stateAfter testsOf
+  unfolding wordOf gainedIn gainedBy answerOf stateAfter testsOf
   loaded-as n l v =
       let o : outcomeOf (view m) (aRule r) ≡ loads n r = outcome-rule (view m) r e ∙ ap (λ (k : ℕ). loads k r) (sym l) in
       record {
@@ -114,6 +117,7 @@ module _ (m t : Monitor) (r : Rule) (e : firstThat (ruleTests (view m) r) ≡ no
         refused-kept = λ k d. cc;
         inhibited-kept = λ k d. cc;
         answer = λ h. sym (ap answerOf o);
+        gained = λ h. sym (ap gainedBy o);
         state = λ h. v ∙ sym (ap (stateAfter (view m)) o);
         sound = loaded-sound v;
       }
@@ -121,24 +125,26 @@ module _ (m t : Monitor) (r : Rule) (e : firstThat (ruleTests (view m) r) ≡ no
 -- ---- a call that rule k stops
 module _ (m : Monitor) (q : Call) (k : ℕ) where
   pub inhibited-as : (Sound m → stopped (view m) q k (ruleAt (m .sets) (m .fields) k) ≡ inhibits k) → AnswersStopped m q k (record { answer = Inhibit k; monitor = m })
-  unfolding wordOf answerOf stateAfter
+  unfolding wordOf gainedIn gainedBy answerOf stateAfter
   inhibited-as f =
       record {
         unrefused = λ n d. let z : _≡_ {A = ℕ} 0 1 = cc in let y : ⊥ = omega arith in y;
         inhibited-kept = λ n d. refl;
         answer = λ h. sym (ap answerOf (f h));
+        gained = λ h. sym (ap gainedBy (f h));
         state = λ h. sym (ap (stateAfter (view m)) (f h));
         sound = λ h. h;
       }
 
-  pub modified-as : (t : Monitor) (c : ℕ) (x : Change) → (Sound m → stopped (view m) q k (ruleAt (m .sets) (m .fields) k) ≡ modifies k c x) → view t ≡ after (view m) x
-      → (Sound m → lowestBroken (after (view m) x) ≡ none) → AnswersStopped m q k (record { answer = Modify k c; monitor = t })
-  unfolding wordOf answerOf stateAfter Sound
-  modified-as t c x f v g =
+  pub modified-as : (t : Monitor) (c : ℕ) (x : Change) (i : ℕ) → (Sound m → stopped (view m) q k (ruleAt (m .sets) (m .fields) k) ≡ modifies k c x i) → view t ≡ after (view m) x
+      → (Sound m → lowestBroken (after (view m) x) ≡ none) → AnswersStopped m q k (record { answer = Modify k c i; monitor = t })
+  unfolding wordOf gainedIn gainedBy answerOf stateAfter Sound
+  modified-as t c x i f v g =
       record {
         unrefused = λ n d. let z : _≡_ {A = ℕ} 0 1 = cc in let y : ⊥ = omega arith in y;
         inhibited-kept = λ n d. cc;
         answer = λ h. sym (ap answerOf (f h));
+        gained = λ h. sym (ap gainedBy (f h));
         state = λ h. v ∙ sym (ap (stateAfter (view m)) (f h));
         sound = λ h. ap lowestBroken v ∙ g h;
       }

@@ -76,9 +76,9 @@ outcome-bounded : (s : State) (q : Option Call) (o : Outcome) → Bounded s → 
 unfolding stateAfter Sound OutcomeFits withRule
 outcome-bounded s q (refuses n) b m f = b
 outcome-bounded s q (loads n r) b m f = record { live = b .live; items = b .items; names = b .names }
-outcome-bounded s q (allows x) b m f = made-bounded s q x b m f
+outcome-bounded s q (allows x g) b m f = made-bounded s q x b m (f .0)
 outcome-bounded s q (inhibits n) b m f = b
-outcome-bounded s q (modifies n c x) b m f = made-bounded s q x b m (f .2)
+outcome-bounded s q (modifies n c x g) b m f = made-bounded s q x b m (f .2)
 
 step-bounded : (s : State) (x : Step) → Invariant s → Bounded s → Bounded (stepState s x)
 unfolding stepState outcome

@@ -33,7 +33,7 @@ use Rattle.decision.specs.View.{view}
 use Rattle.decision.specs.Answers.{wordOf, Sound, AnswersRecord}
 use Rattle.decision.specs.Logs.{inBytes}
 use Rattle.decision.specs.Chains.{Numbers, Holdable, ofBytes, ChainExists}
-use Rattle.decision.proofs.CodeLaws.{answerIs, word-is}
+use Rattle.decision.proofs.CodeLaws.{answerIs, word-is, gained-is, says-refused, says-inhibited, refused-says}
 use Rattle.decision.proofs.Stored.{held, held-view, partsOf, blank, fieldOf, setsOf, fieldsOf, wordsOf, fields-fit, substitute-lt, formed-at}
 use Rattle.decision.proofs.Telling.{kept-ruled, outcome-bytes}
 use Rattle.decision.proofs.Bounds.{state-bounded, state-ruled}
@@ -100,29 +100,27 @@ module _ (steps : List Step) (h : (n : ℕ) → ofBytes (stepAt steps n)) (k : �
 
 -- ---- one record, from a state that a monitor holds to the state after it, where no rule is broken
 module _ (s : State) (bytes : List ℕ) (v : view (held s) ≡ s) (w : view (held (next s bytes)) ≡ next s bytes) (unbroken : lowestBroken (next s bytes) ≡ none) where
-  told : (a : Answer) → answerIs (answer s bytes) ≡ a → answer s bytes ≡ wordOf a
-  told a e = sym (word-is (answer s bytes)) ∙ ap wordOf e
-
-  pub record-answered : AnswersRecord (held s) bytes (record { answer = answerIs (answer s bytes); monitor = held (next s bytes) })
-  unfolding Sound outcome answer next wordOf answerIs RefusedExactly StoppedKeeps
+  pub record-answered : AnswersRecord (held s) bytes (record { answer = answerIs (outcome s bytes); monitor = held (next s bytes) })
+  unfolding Sound outcome answer next RefusedExactly StoppedKeeps
   record-answered =
       record {
-        refusal = λ n. let h = refused-exactly s bytes n in rw v (λ e. sym (refusal-read s bytes) ∙ h .0 (told (Refused n) e), λ e. ap answerIs (h .1 (refusal-read s bytes ∙ e)));
-        refused-kept = λ n e. ap held (stopped-keeps s bytes n .0 (told (Refused n) e));
-        inhibited-kept = λ n e. ap held (stopped-keeps s bytes n .1 (told (Inhibit n) e));
-        answer = λ h. rw v (word-is (answer s bytes));
+        refusal = λ n. let h = refused-exactly s bytes n in rw v (λ e. sym (refusal-read s bytes) ∙ h .0 (says-refused (outcome s bytes) n e), λ e. refused-says (outcome s bytes) n (h .1 (refusal-read s bytes ∙ e)));
+        refused-kept = λ n e. ap held (stopped-keeps s bytes n .0 (says-refused (outcome s bytes) n e));
+        inhibited-kept = λ n e. ap held (stopped-keeps s bytes n .1 (says-inhibited (outcome s bytes) n e));
+        answer = λ h. rw v (word-is (outcome s bytes));
+        gained = λ h. rw v (gained-is (outcome s bytes));
         state = λ h. w ∙ ap (λ (u : State). next u bytes) (sym v);
         sound = λ h. ap lowestBroken w ∙ unbroken;
       }
 
 unfoldable pub answerTo : State → Step → Answer
-answerTo s (entry bytes) = answerIs (answer s bytes)
-answerTo s memory = Allow
+answerTo s (entry bytes) = answerIs (outcome s bytes)
+answerTo s memory = Allow 0
 
 pub answer-bytes : (s : State) → Invariant s → (x : Step) → inBytes (answerTo s x)
-unfolding answerTo answer inBytes
+unfolding answerTo inBytes
 answer-bytes s i (entry bytes) = outcome-bytes s (kept-ruled s i) bytes
-answer-bytes s i memory = tt
+answer-bytes s i memory = pow-pos 64
 
 -- ---- all steps
 pub views : (steps : List Step) (k : ℕ) → view (held (stateAt steps k)) ≡ stateAt steps k

@@ -41,8 +41,8 @@ codes-length (w ∷ ws) = ap suc (codes-length ws)
 -- ---- one operation, from a state that a monitor holds to the state after it
 unfoldable answerBy : State → Operation → Answer
 answerBy s (event e) = answerTo s (stepOf e)
-answerBy s (run log) = Allow
-answerBy s (short log some) = Allow
+answerBy s (run log) = Allow 0
+answerBy s (short log some) = Allow 0
 
 unfoldable codesBy : State → Operation → List ℕ
 codesBy s (event e) = []
@@ -87,8 +87,8 @@ module _ (s : State) (v : view (held s) ≡ s) where
 operation-bytes : (s : State) → Invariant s → (o : Operation) → inBytes (answerBy s o) × Below (2 ^ 32) (codesBy s o)
 unfolding answerBy codesBy runLog inBytes
 operation-bytes s i (event e) = (answer-bytes s i (stepOf e), λ k. pow-pos 32)
-operation-bytes s i (run log) = (tt, codes-below s (recordsOf log) (kept-ruled s i))
-operation-bytes s i (short log some) = (tt, λ k. pow-pos 32)
+operation-bytes s i (run log) = (pow-pos 64, codes-below s (recordsOf log) (kept-ruled s i))
+operation-bytes s i (short log some) = (pow-pos 64, λ k. pow-pos 32)
 
 -- ---- all operations
 module _ (os : List Operation) where

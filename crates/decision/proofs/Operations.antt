@@ -29,7 +29,7 @@ use Rattle.decision.proofs.Telling.{log-codes-tell}
 -- ---- the words that steps are told, and the state after them
 unfoldable pub wordOn : State → Step → Word
 wordOn s (entry bytes) = answer s bytes
-wordOn s memory = allow
+wordOn s memory = allow 0
 
 abbrev later : Word → Replay → Replay
 later w r = record { answers = w ∷ r .answers; state = r .state }
@@ -64,7 +64,7 @@ unfolding stateAt replay
 state-at xs zero = refl
 state-at xs (suc k) = rw (state-at xs k) (sym (state-more fresh xs k))
 
-word-at : (s : State) (xs : List Step) (k : ℕ) (bytes : List ℕ) → stepAt xs k ≡ entry bytes → getD (replay s xs .answers) k allow ≡ answer (stateBy s (take k xs)) bytes
+word-at : (s : State) (xs : List Step) (k : ℕ) (bytes : List ℕ) → stepAt xs k ≡ entry bytes → getD (replay s xs .answers) k (allow 0) ≡ answer (stateBy s (take k xs)) bytes
 unfolding replay wordOn
 word-at s [] k bytes e = absurd (let z : _≡_ {A = ℕ} 0 1 = cc in let y : ⊥ = omega arith in y)
 word-at s (x ∷ xs) zero bytes e = ap (wordOn s) e
@@ -153,7 +153,7 @@ module _ (os : List Operation) (x : ℕ → Monitor) (w : ℕ → Word) (codes :
       let d = done n (h .0) in
       (d .sound, ap (λ (r : Replay). r .state) (d .replayed) ∙ ap (λ (s : State). stateBy s (stepsOf (operationAt os n))) (h .1) ∙ sym (next-moment os n))
 
-  told-at : (place : ℕ) (bytes : List ℕ) → stepAt (allSteps os) place ≡ entry bytes → getD (told os w codes) place allow ≡ answer (stateAt (allSteps os) place) bytes
+  told-at : (place : ℕ) (bytes : List ℕ) → stepAt (allSteps os) place ≡ entry bytes → getD (told os w codes) place (allow 0) ≡ answer (stateAt (allSteps os) place) bytes
   told-at place bytes e = rw (all-told os x w codes done (fresh-sound (x 0) made), made, state-at (allSteps os) place) (word-at fresh (allSteps os) place bytes e)
 
   barred : (chosen : ℕ → Bool) (j k : ℕ) → RulesToldForbid chosen (allSteps os) (told os w codes) j k → RulesForbid chosen (stateAt (allSteps os) j) k

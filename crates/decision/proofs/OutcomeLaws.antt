@@ -19,12 +19,13 @@ use Rattle.flow.specs.Rules.{broken, Numbered, firstBroken, lowestBroken}
 use Rattle.flow.specs.Records.{tagOf, callTag, valueOf, ruleIn, Reading, unreadable, aCall, aRule, frameTests, contentOf, readingBy, reading}
 use Rattle.flow.specs.Refusals.{inRange, ranges, fieldsFit, fieldTests, callTests, ruleTests}
 use Rattle.flow.specs.Kept.{wellFormed}
-use Rattle.flow.specs.Verdicts.{Outcome, refuses, loads, allows, inhibits, modifies, diversion, mayDivert, breaksNone, stopped, verdictBy, verdict, outcomeOfCall, outcomeOfRule, outcomeOf, answerOf, withRule, stateAfter}
+use Rattle.flow.specs.Verdicts.{Outcome, refuses, loads, allows, inhibits, modifies, diversion, mayDivert, breaksNone, stopped, verdictBy, verdictAt, verdict, outcomeOfCall, outcomeOfRule, outcomeOf, withRule, stateAfter}
 use Rattle.flow.proofs.Bools.{choice}
 use Rattle.flow.proofs.TableLaws.{none-is}
 use Rattle.flow.proofs.Places.{frame-byte, call-byte, rule-byte}
 use Rattle.flow.proofs.Accepted.{accepted, fits-process, fits-a}
 use Rattle.flow.proofs.Outcomes.{accepted-rule}
+use Rattle.flow.proofs.GainLaws.{gained-lt}
 use Rattle.rules.proofs.LoadingLaws.{fit-substitute}
 use Rattle.decision.specs.Logs.{inBytes}
 use Rattle.decision.proofs.CodeLaws.{answerIs}
@@ -96,17 +97,17 @@ module _ (Q : Rule → Type 0) where
   unfoldable pub OutcomeFits : State → Outcome → Type 0
   OutcomeFits s (refuses n) = n < 256
   OutcomeFits s (loads n r) = (n < 32) × (length (s .rules) < 32) × (r .substitute < 64) × Q r
-  OutcomeFits s (allows x) = Steady (s .tables) (x .tables)
+  OutcomeFits s (allows x g) = Steady (s .tables) (x .tables) × (g < 2 ^ 64)
   OutcomeFits s (inhibits n) = n < 256
-  OutcomeFits s (modifies n c x) = (n < 256) × (c < 64) × Steady (s .tables) (x .tables)
+  OutcomeFits s (modifies n c x g) = (n < 256) × (c < 64) × Steady (s .tables) (x .tables) × (g < 2 ^ 64)
 
-  pub fits-bytes : (s : State) (o : Outcome) → OutcomeFits s o → inBytes (answerIs (answerOf o))
-  unfolding OutcomeFits answerIs answerOf inBytes
+  pub fits-bytes : (s : State) (o : Outcome) → OutcomeFits s o → inBytes (answerIs o)
+  unfolding OutcomeFits answerIs inBytes
   fits-bytes s (refuses n) h = h
   fits-bytes s (loads n r) h = omega (arith, h .0)
-  fits-bytes s (allows x) h = tt
+  fits-bytes s (allows x g) h = h .1
   fits-bytes s (inhibits n) h = h
-  fits-bytes s (modifies n c x) h = (h .0, omega (arith, h .1))
+  fits-bytes s (modifies n c x g) h = (h .0, omega (arith, h .1), h .3)
 
   pub after-ruled : (s : State) (o : Outcome) → OutcomeFits s o → Ruled (s .rules) → Ruled (stateAfter s o .rules)
   unfolding stateAfter OutcomeFits withRule after
@@ -117,9 +118,9 @@ module _ (Q : Rule → Type 0) where
         diverted = every-more (λ x. x .substitute < 64) blank (s .rules) r (h .diverted) (f .2);
         each = every-more Q blank (s .rules) r (h .each) (f .3);
       }
-  after-ruled s (allows x) f h = h
+  after-ruled s (allows x g) f h = h
   after-ruled s (inhibits n) f h = h
-  after-ruled s (modifies n c x) f h = h
+  after-ruled s (modifies n c x g) f h = h
 
   pub reading-fits : (bytes : List ℕ) → Q (ruleIn (tagOf bytes) (valueOf bytes)) → ReadingFits (reading bytes)
   unfolding reading readingBy ReadingFits contentOf
@@ -134,20 +135,20 @@ module _ (Q : Rule → Type 0) where
     unfolding stopped OutcomeFits diversion
     stopped-fits q n r hn hr =
         choice (OutcomeFits s) (mayDivert s q r) _ _
-        (λ e. choice (OutcomeFits s) (breaksNone (after s (diversion s q r))) _ _ (λ f. (hn, hr, record { live = λ l. l; names = refl })) (λ f. hn))
+        (λ e. choice (OutcomeFits s) (breaksNone (after s (diversion s q r))) _ _ (λ f. (hn, hr, record { live = λ l. l; names = refl }, gained-lt (s .items) (after s (diversion s q r) .items))) (λ f. hn))
         (λ e. hn)
 
-    verdict-fits : (q : Call) (o : Option Numbered) → fieldsFit (ranges (q .kind)) q ≡ true → SmallRule o → OutcomeFits s (verdictBy s q o)
+    verdict-fits : (q : Call) (t : State) (o : Option Numbered) → fieldsFit (ranges (q .kind)) q ≡ true → SmallRule o → OutcomeFits s (verdictBy s q t o)
     unfolding verdictBy OutcomeFits change SmallRule
-    verdict-fits q none h l = steady-after (s .tables) (q .process) (q .a) (q .b) (q .c) (q .kind) h
-    verdict-fits q (some x) h l = stopped-fits q (x .number) (x .rule) (l .0) (l .1)
+    verdict-fits q t none h l = (steady-after (s .tables) (q .process) (q .a) (q .b) (q .c) (q .kind) h, gained-lt (s .items) (t .items))
+    verdict-fits q t (some x) h l = stopped-fits q (x .number) (x .rule) (l .0) (l .1)
 
     call-fits : (q : Option Call) (o : Option ℕ) → firstThat (callTests (s .tables) q) ≡ o → OutcomeFits s (outcomeOfCall s q o)
-    unfolding outcomeOfCall verdict OutcomeFits lowestBroken after
+    unfolding outcomeOfCall verdict verdictAt OutcomeFits lowestBroken after
     call-fits none none e = omega arith
     call-fits (some q) none e =
         let l : length (s .rules) ≤ 32 = ruled .counted in
-        verdict-fits q _ (accepted (s .tables) q e .fits)
+        verdict-fits q _ _ (accepted (s .tables) q e .fits)
         (first-broken (after s (change (s .tables) q)) 0 (s .rules) (omega arith) (ruled .diverted))
     call-fits none (some n) e = call-byte (s .tables) none n e
     call-fits (some q) (some n) e = call-byte (s .tables) (some q) n e

@@ -13,9 +13,10 @@ use Rattle.flow.specs.Box.{containerOf, Rule}
 use Rattle.flow.specs.Links.{reach, used}
 use Rattle.flow.proofs.Bools.{chosen-l, chosen-r}
 use Rattle.flow.specs.Calls.{Call, after}
-use Rattle.flow.specs.Verdicts.{diversion}
+use Rattle.flow.specs.Verdicts.{modifies, gainedFrom, diversion}
+use Rattle.flow.specs.Gained.{gained}
 use Rattle.store.specs.declared.Plan.{Plan}
-use Rattle.store.specs.Maps.{Maps, withItems, itemsIn, view as mapsOf, itemsBy}
+use Rattle.store.specs.Maps.{Maps, withItems, itemsIn, view as mapsOf, itemsBy, gifts, MakesItems}
 use Rattle.tracker.specs.declared.Call.{Call as Bytes}
 use Rattle.tracker.specs.Rows.{callIn}
 use Rattle.tracker.specs.Plans.{giving}
@@ -23,6 +24,7 @@ use Rattle.tracker.specs.Worked.{Foreseen}
 use Rattle.rules.specs.Stored.{ruleAt, actionAt, substituteAt, countOf}
 use Rattle.rules.specs.Judging.{Judged}
 use Rattle.decision.specs.declared.Monitor.{Monitor}
+use Rattle.decision.specs.declared.inplace.Diverted.{Diverted}
 use Rattle.decision.specs.declared.Answer.the-variants.{Inhibit, Modify}
 use Rattle.decision.specs.View.{maps, monitor, view}
 use Rattle.decision.specs.Answers.{stoppedBy, AnswersStopped}
@@ -30,13 +32,17 @@ use Rattle.decision.proofs.AnswerLaws.{inhibited-as, modified-as}
 use Rattle.decision.proofs.VerdictLaws.{judged-none, judged-some, no-write, not-used, diverted, diversion-broken, gift-items, exactly}
 
 -- ---- the answer, by where the call went
-pub diverted-by : (k c : ℕ) → c < 64 → stoppedBy k c ≡ Modify k c
+pub diverted-by : (k c g : ℕ) → c < 64 → stoppedBy k c g ≡ Modify k c g
 unfolding stoppedBy
-diverted-by k c h = chosen-l (ltb c 64) (Modify k c) (Inhibit k) (lt-ltb c 64 h)
+diverted-by k c g h = chosen-l (ltb c 64) (Modify k c g) (Inhibit k) (lt-ltb c 64 h)
 
-pub inhibited-by : (k c : ℕ) → 64 ≤ c → stoppedBy k c ≡ Inhibit k
+pub inhibited-by : (k c g : ℕ) → 64 ≤ c → stoppedBy k c g ≡ Inhibit k
 unfolding stoppedBy
-inhibited-by k c h = chosen-r (ltb c 64) (Modify k c) (Inhibit k) (le-ltb c 64 h)
+inhibited-by k c g h = chosen-r (ltb c 64) (Modify k c g) (Inhibit k) (le-ltb c 64 h)
+
+-- what `inhibited` stands for
+pub inhibited-is : (k : ℕ) (r : Diverted) → r ≡ record { to = 64; gained = 0 } → stoppedBy k (r .to) (r .gained) ≡ Inhibit k
+inhibited-is k r e = rw e (inhibited-by k 64 0 (omega arith))
 
 module _ (m : Monitor) (b : Bytes) (q : Call) (e : callIn b ≡ some q) (k : ℕ) where
   abbrev rule : Rule
@@ -88,10 +94,17 @@ module _ (m : Monitor) (b : Bytes) (q : Call) (e : callIn b ≡ some q) (k : ℕ
       unfolding view after diversion mapsOf
       moved w v = ap (λ (s : Maps). record { tables = s .tables; items = s .items; rules = view m .rules }) (v ∙ ap (withItems (maps m)) (sym items-are))
 
-      pub stop-diverts : j ≡ countOf (m .fields) → (w : List ℕ) → mapsOf w (m .descriptors) (m .names) ≡ withItems (maps m) (itemsBy (maps m .items) plan)
-          → AnswersStopped m q k (record { answer = stoppedBy k c; monitor = monitor w (m .descriptors) (m .names) (m .sets) (m .fields) })
-      stop-diverts t w v =
-          rw (diverted-by k c small)
-          (subst (λ (to : ℕ). AnswersStopped m q k (record { answer = Modify k to; monitor = monitor w (m .descriptors) (m .names) (m .sets) (m .fields) })) (sym g)
-          (modified-as m q k _ (rule .substitute) (diversion (view m) q rule)
-          (λ z. diverted m b q e k (eqb n 1) y acts d use-is (not-false y h) (judged-none m plan _ same-rules sees j js t z)) (moved w v) (judged-none m plan _ same-rules sees j js t)))
+      -- those that gain by the plan gain by the write
+      gained-are : (i : ℕ) → i ≡ gained (itemsIn (m .words)) (itemsBy (itemsIn (m .words)) plan) → i ≡ gainedFrom (view m) (after (view m) (diversion (view m) q rule))
+      unfolding view mapsOf
+      gained-are i d = d ∙ ap (gained (itemsIn (m .words))) (sym items-are)
+
+      pub stop-diverts : j ≡ countOf (m .fields) → (w : List ℕ) (i : ℕ) → MakesItems (m .words) (gifts plan) w i
+          → AnswersStopped m q k (record { answer = stoppedBy k c i; monitor = monitor w (m .descriptors) (m .names) (m .sets) (m .fields) })
+      stop-diverts t w i u =
+          let v : MakesItems (m .words) plan w i = subst (λ (x : Plan). MakesItems (m .words) x w i) (ap gifts ip ∙ sym ip) u in
+          rw (diverted-by k c i small)
+          (subst (λ (to : ℕ). AnswersStopped m q k (record { answer = Modify k to i; monitor = monitor w (m .descriptors) (m .names) (m .sets) (m .fields) })) (sym g)
+          (modified-as m q k _ (rule .substitute) (diversion (view m) q rule) i
+          (λ z. diverted m b q e k (eqb n 1) y acts d use-is (not-false y h) (judged-none m plan _ same-rules sees j js t z) ∙ ap (modifies k (rule .substitute) (diversion (view m) q rule)) (sym (gained-are i (v .told))))
+          (moved w (v .made (m .descriptors) (m .names))) (judged-none m plan _ same-rules sees j js t)))

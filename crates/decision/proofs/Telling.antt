@@ -20,7 +20,7 @@ use Rattle.decision.specs.View.{view}
 use Rattle.decision.specs.Answers.{Sound, Answers}
 use Rattle.decision.specs.Logs.{wordFrom, inBytes, CodesTell, codesOf}
 use Rattle.decision.specs.Telling.{AnswersInBytes, LogCodesTell}
-use Rattle.decision.proofs.CodeLaws.{answerIs, answer-is, word-is, codes-tell, code-lt}
+use Rattle.decision.proofs.CodeLaws.{answerIs, answer-told, word-is, codes-tell, code-lt}
 use Rattle.decision.proofs.Stored.{blank, formed-at, substitute-lt}
 use Rattle.decision.proofs.ListLaws.{Below, every-table}
 use Rattle.decision.proofs.OutcomeLaws.{Ruled, ReadingFits, fits-bytes, reading-fits, after-ruled, outcome-fits}
@@ -48,15 +48,15 @@ view-ruled m =
 
 -- ---- the answers
 module _ (s : State) (ruled : Ruled Any (s .rules)) where
-  read-bytes : (y : Reading) → ReadingFits Any y → inBytes (answerIs (answerOf (outcomeOf s y)))
+  read-bytes : (y : Reading) → ReadingFits Any y → inBytes (answerIs (outcomeOf s y))
   read-bytes y f = fits-bytes Any s _ (outcome-fits Any s ruled y f)
 
-  pub outcome-bytes : (bytes : List ℕ) → inBytes (answerIs (answerOf (outcome s bytes)))
+  pub outcome-bytes : (bytes : List ℕ) → inBytes (answerIs (outcome s bytes))
   unfolding outcome
   outcome-bytes bytes = read-bytes (reading bytes) (reading-any bytes)
 
 told-bytes : (m : Monitor) (y : Reading) (r : Answered) → ReadingFits Any y → Answers m y r → Sound m → inBytes (r .answer)
-told-bytes m y r f h sound = subst inBytes (ap answerIs (sym (h .answer sound)) ∙ answer-is (r .answer)) (read-bytes (view m) (view-ruled m) y f)
+told-bytes m y r f h sound = subst inBytes (sym (answer-told (r .answer) (outcomeOf (view m) y) (h .answer sound) (h .gained sound))) (read-bytes (view m) (view-ruled m) y f)
 
 pub answers-in-bytes : AnswersInBytes
 unfolding AnswersInBytes ReadingFits
@@ -71,13 +71,13 @@ all-told : (s : State) (rs : List (List ℕ)) → Ruled Any (s .rules) → map w
 unfolding answerAll codesOf CodesTell
 all-told s [] h = refl
 all-told s (r ∷ rs) h =
-    ap₂ (λ (w : Word) (ws : List Word). w ∷ ws) (rw (word-is (answerOf (outcome s r))) at (codes-tell (answerIs (answerOf (outcome s r))) (outcome-bytes s h r)))
+    ap₂ (λ (w : Word) (ws : List Word). w ∷ ws) (rw (word-is (outcome s r)) at (codes-tell (answerIs (outcome s r)) (outcome-bytes s h r)))
     (all-told _ rs (next-ruled s r h))
 
 pub codes-below : (s : State) (rs : List (List ℕ)) → Ruled Any (s .rules) → Below (2 ^ 32) (codesOf (answerAll s rs .answers))
 unfolding answerAll codesOf
 codes-below s [] h k = pow-pos 32
-codes-below s (r ∷ rs) h zero = rw (word-is (answerOf (outcome s r))) at (code-lt (answerIs (answerOf (outcome s r))) (outcome-bytes s h r))
+codes-below s (r ∷ rs) h zero = rw (word-is (outcome s r)) at (code-lt (answerIs (outcome s r)) (outcome-bytes s h r))
 codes-below s (r ∷ rs) h (suc k) = codes-below _ rs (next-ruled s r h) k
 
 pub log-codes-tell : LogCodesTell

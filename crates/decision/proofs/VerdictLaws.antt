@@ -16,7 +16,7 @@ use Rattle.flow.specs.Links.{reach, used}
 use Rattle.flow.specs.Calls.{Kind, write, kindNumber, Call, isKind, gift, change, itemsAfter, after}
 use Rattle.flow.specs.Rules.{Numbered, lowestBroken}
 use Rattle.flow.specs.Records.{kindOf, callBy, callFrom}
-use Rattle.flow.specs.Verdicts.{Outcome, modifies, inhibits, diversion, mayDivert, breaksNone, stopped, verdictBy, verdict}
+use Rattle.flow.specs.Verdicts.{Outcome, modifies, inhibits, diversion, mayDivert, breaksNone, gainedFrom, stopped, verdictBy, verdictAt, verdict}
 use Rattle.flow.specs.Consequences.{KindsNumbered}
 use Rattle.flow.proofs.Bools.{or-elim, or-l, or-r, and-i, no-both, choice, chosen-l, chosen-r}
 use Rattle.flow.proofs.KindLaws.{kinds-numbered}
@@ -88,8 +88,8 @@ found-lt {items} {plan} {sets} {fields} {k} j e =
 
 -- ---- verdicts
 pub stops : (s : State) (q : Call) (x : Numbered) → lowestBroken (after s (change (s .tables) q)) ≡ some x → verdict s q ≡ stopped s q (x .number) (x .rule)
-unfolding verdict verdictBy
-stops s q x h = ap (verdictBy s q) h
+unfolding verdict verdictAt verdictBy
+stops s q x h = ap (verdictBy s q _) h
 
 -- ---- a call from its bytes
 pub call-fields : (b : Bytes) (q : Call) → callIn b ≡ some q → (kindNumber (q .kind) ≡ b .kind) × (q .process ≡ b .process)
@@ -145,11 +145,11 @@ module _ (m : Monitor) (b : Bytes) (q : Call) (e : callIn b ≡ some q) (k : ℕ
     diverts = may x y f g ∙ and-i (x && eqb (b .kind) 9) y (not-false (x && eqb (b .kind) 9) d) u
 
     by-judging : (o : Option Numbered) → lowestBroken (after (view m) (diversion (view m) q rule)) ≡ o
-        → outcome ≡ elim (isNone o) as (λ z. Outcome) [ true ↦ modifies k (rule .substitute) (diversion (view m) q rule) | false ↦ inhibits k ]
+        → outcome ≡ elim (isNone o) as (λ z. Outcome) [ true ↦ modifies k (rule .substitute) (diversion (view m) q rule) (gainedFrom (view m) (after (view m) (diversion (view m) q rule))) | false ↦ inhibits k ]
     unfolding stopped breaksNone
-    by-judging o h = chosen-l (mayDivert (view m) q rule) _ _ diverts ∙ ap (λ (v : Option Numbered). elim (isNone v) as (λ z. Outcome) [ true ↦ modifies k (rule .substitute) (diversion (view m) q rule) | false ↦ inhibits k ]) h
+    by-judging o h = chosen-l (mayDivert (view m) q rule) _ _ diverts ∙ ap (λ (v : Option Numbered). elim (isNone v) as (λ z. Outcome) [ true ↦ modifies k (rule .substitute) (diversion (view m) q rule) (gainedFrom (view m) (after (view m) (diversion (view m) q rule))) | false ↦ inhibits k ]) h
 
-    pub diverted : lowestBroken (after (view m) (diversion (view m) q rule)) ≡ none → outcome ≡ modifies k (rule .substitute) (diversion (view m) q rule)
+    pub diverted : lowestBroken (after (view m) (diversion (view m) q rule)) ≡ none → outcome ≡ modifies k (rule .substitute) (diversion (view m) q rule) (gainedFrom (view m) (after (view m) (diversion (view m) q rule)))
     unfolding isNone
     diverted h = by-judging none h
 

@@ -160,12 +160,12 @@ pub record OperationsOver (os : List Operation) : Type 0 where
 unfoldable pub OperationChainExists : Type 0
 OperationChainExists = (os : List Operation) → OperationsOver os
 
--- the words told to the steps of an operation: the answer w, or what the codes of a log stand for; `allow` stands where memory moves, which is
+-- the words told to the steps of an operation: the answer w, or what the codes of a log stand for; `allow 0` stands where memory moves, which is
 -- told nothing
 unfoldable pub toldTo : Event → Word → Word
 toldTo (given bytes) w = w
 toldTo (called kind p d e f) w = w
-toldTo moves w = allow
+toldTo moves w = allow 0
 
 unfoldable pub toldBy : Operation → Word → List ℕ → List Word
 toldBy (event e) w codes = toldTo e w ∷ []
@@ -184,7 +184,7 @@ OperationsAreSteps =
     (os : List Operation) (x : ℕ → Monitor) (a : ℕ → Answer) (codes : ℕ → List ℕ) → OperationChain os x a codes
     → (let steps = allSteps os in
     ((n : ℕ) → Sound (x n) × (view (x n) ≡ stateAt steps (moment os n)))
-    × ((place : ℕ) (bytes : List ℕ) → stepAt steps place ≡ entry bytes → getD (told os (λ n. wordOf (a n)) codes) place allow ≡ answer (stateAt steps place) bytes))
+    × ((place : ℕ) (bytes : List ℕ) → stepAt steps place ≡ entry bytes → getD (told os (λ n. wordOf (a n)) codes) place (allow 0) ≡ answer (stateAt steps place) bytes))
 
 -- by moment j a rule that forbids container c item i was loaded: its record was told "rule"
 pub record ToldAgainst (steps : List Step) (words : List Word) (j c i : ℕ) : Type 0 where
@@ -193,7 +193,7 @@ pub record ToldAgainst (steps : List Step) (words : List Word) (j c i : ℕ) : T
   pub bytes : List ℕ
   pub is-record : stepAt steps place ≡ entry bytes
   pub number : ℕ
-  pub answered : getD words place allow ≡ rule number
+  pub answered : getD words place (allow 0) ≡ rule number
   pub loaded : Rule
   pub is-rule : reading bytes ≡ aRule loaded
   pub forbidden : forbids (loaded .condition) c i ≡ true

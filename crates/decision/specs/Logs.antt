@@ -1,5 +1,5 @@
 -- Document 01, What a record gets: a whole log. Each answer goes into a lent slice as one number.
-use Prim.Native.Nat.{ℕ, _+_, _*_, _/_, _%_, _<_}
+use Prim.Native.Nat.{ℕ, _+_, _*_, _/_, _%_, _^_, _<_}
 use mathlib.Core.Path.{_≡_}
 use mathlib.Core.Bool.{Bool, true, false}
 use mathlib.Core.List.{List, [], _∷_}
@@ -12,39 +12,47 @@ use Rattle.tracker.specs.Replies.{replyOf}
 use Rattle.decision.specs.declared.Monitor.{Monitor}
 use Rattle.decision.specs.declared.Answer.{Answer}
 use Rattle.decision.specs.declared.Answer.the-variants.{Refused, Loaded, Allow, Inhibit, Modify}
+use Rattle.decision.specs.declared.Answered.{Answered}
 use Rattle.decision.specs.declared.RunResult.{RunResult}
 use Rattle.decision.specs.View.{view}
 use Rattle.decision.specs.Answers.{wordOf, Sound}
 
--- the code of an answer: its word, then its numbers, from the lowest byte on; a rule's number is below 32, a substitute below 64
+-- the code of an answer: its word, then its numbers, from the lowest byte on; a rule's number is below 32, a substitute below 64. In the highest
+-- byte, how many containers gained, 64 at most (02, Paper 5)
 unfoldable pub codeOf : Word → ℕ
-codeOf allow = 0
+codeOf (allow g) = 16777216 * g
 codeOf (inhibit n) = 1 + 256 * n
-codeOf (modify n c) = 2 + 256 * n + 65536 * c
+codeOf (modify n c g) = 2 + 256 * n + 65536 * c + 16777216 * g
 codeOf (rule n) = 3 + 256 * n
 codeOf (refused n) = 4 + 256 * n
 
--- the answer that a code stands for, by its three lowest bytes
-unfoldable pub wordBy : ℕ → ℕ → ℕ → Word
-wordBy word first second =
+-- n is the code of an answer that, with the monitor m, is what P promises
+pub record Coded (P : Answered → Type 0) (n : ℕ) (m : Monitor) : Type 0 where
+  pub answer : Answer
+  pub code : n ≡ codeOf (wordOf answer)
+  pub promised : P (record { answer = answer; monitor = m })
+
+-- the answer that a code stands for, by its four bytes
+unfoldable pub wordBy : ℕ → ℕ → ℕ → ℕ → Word
+wordBy word first second last =
     elim (eqb word 0) [
-      | true ↦ allow
+      | true ↦ allow last
       | false ↦ elim (eqb word 1) [
         | true ↦ inhibit first
-        | false ↦ elim (eqb word 2) [ true ↦ modify first second | false ↦ elim (eqb word 3) [ true ↦ rule first | false ↦ refused first ] ]
+        | false ↦ elim (eqb word 2) [ true ↦ modify first second last | false ↦ elim (eqb word 3) [ true ↦ rule first | false ↦ refused first ] ]
       ]
     ]
 
 unfoldable pub wordFrom : ℕ → Word
-wordFrom n = wordBy (n % 256) (n / 256 % 256) (n / 65536 % 256)
+wordFrom n = wordBy (n % 256) (n / 256 % 256) (n / 65536 % 256) (n / 16777216 % 256)
 
--- each number of the answer is a byte
+-- each number of the answer is a byte, and a set one of containers
 unfoldable pub inBytes : Answer → Type 0
 inBytes (Refused n) = n < 256
 inBytes (Loaded n) = n < 256
-inBytes Allow = Unit {0}
+inBytes (Allow g) = g < 2 ^ 64
 inBytes (Inhibit n) = n < 256
-inBytes (Modify n c) = (n < 256) × (c < 256)
+inBytes (Modify n c g) = (n < 256) × (c < 256) × (g < 2 ^ 64)
 
 -- A code tells its answer: of an answer in bytes, the code stands for its word and numbers.
 unfoldable pub CodesTell : Type 0

@@ -19,6 +19,7 @@ use rules::stored::SEPARATE_TAG;
 use rules::stored::count;
 use sets::lengths;
 use store::cells::make_items;
+use store::cells::replace_items;
 use store::limits::CONTAINERS;
 use store::limits::DEVICES;
 use store::limits::NONE;
@@ -29,22 +30,29 @@ use store::spread::reach;
 use tracker::Call;
 use tracker::Tracker;
 use tracker::calls::finish;
+use tracker::calls::finish_copy;
+use tracker::calls::finish_exchange;
+use tracker::calls::finish_gift;
+use tracker::plan::copy_of;
+use tracker::plan::exchange_of;
+use tracker::plan::gift_of;
 use tracker::plan::gives;
 use tracker::plan::giving;
-use tracker::plan::plan_of;
 use tracker::queries::Reply;
 use tracker::rows::refusal;
 ghost use Prim.Native.Nat.{ℕ, _<_};
 ghost use mathlib.Core.Path.{_≡_};
+ghost use mathlib.Core.Bool.{true};
 ghost use mathlib.Core.List.{List};
 ghost use mathlib.Core.Option.{some};
 ghost use Rattle.flow.specs.Box.{ruleCount};
 ghost use Rattle.flow.specs.Calls.{Call as Asked};
-ghost use Rattle.flow.specs.Records.{aCall, aRule};
+ghost use Rattle.flow.specs.Records.{kindOf, aCall, aRule};
 ghost use Rattle.tracker.specs.Rows.{callIn, Passes};
+ghost use Rattle.tracker.specs.Plans.{givesAt, GivesOnce};
 ghost use Rattle.rules.specs.Stored.{ruleFrom};
 ghost use Rattle.decision.specs.View.{monitor, monitorBefore, monitorAfter};
-ghost use Rattle.decision.specs.Logs.{AnswersLog};
+ghost use Rattle.decision.specs.Logs.{Coded, AnswersLog};
 ghost use Rattle.decision.specs.Answers.{IsFresh, AnswersRecord, Answers, Gives, stoppedBy, AnswersStopped};
 
 const CONFINE_TAG: u8 = 0x13;
@@ -70,7 +78,22 @@ pub fn renew(
     *fields = [0u8; 129];
 }
 
-// A call that rule k stops: a write may go to the rule's substitute. Answers the container that it went to, or 64.
+// What a stopped call came to: the container that it was diverted to, or 64, and the containers that gained.
+pub struct Diverted {
+    pub to: u8,
+    pub gained: u64,
+}
+
+fn inhibited() -> Diverted
+    ensures { λ r. ⌜ r ≡ record { to = 64; gained = 0 } ⌝ }
+{
+    Diverted {
+        to: NONE,
+        gained: 0,
+    }
+}
+
+// A call that rule k stops: a write may go to the rule's substitute.
 fn stop_in(
     words: &mut [u64; 353],
     descriptors: &[u8; 512],
@@ -79,69 +102,131 @@ fn stop_in(
     fields: &[u8; 129],
     q: Call,
     k: u8,
-) -> u8
+) -> Diverted
     requires { ⌜ (k < ruleCount) × Passes (now words) (now descriptors) (now names) q ⌝ }
-    ensures { λ r. ⌜ ((x : Asked) → callIn q ≡ some x → AnswersStopped (monitorBefore words descriptors names sets fields) x k (record { answer = stoppedBy k r; monitor = monitorAfter words descriptors names sets fields })) ⌝ }
+    ensures { λ r. ⌜ ((x : Asked) → callIn q ≡ some x → AnswersStopped (monitorBefore words descriptors names sets fields) x k (record { answer = stoppedBy k (r .to) (r .gained); monitor = monitorAfter words descriptors names sets fields })) ⌝ }
 {
     lengths(words, names);
     let diverts = stored::action(fields, k) == DIVERT;
     if !(diverts & (q.kind == WRITE)) {
-        return NONE;
+        return inhibited();
     }
     let c = stored::substitute(fields, k);
     if !in_use(words, descriptors, names, Container(c)) {
-        return NONE;
+        return inhibited();
     }
     let own = DEVICES + q.process;
     let plan = giving(items(words, Container(own)), reach(words, Container(c)));
     if judge(words, plan, sets, fields) != count(fields) {
-        return NONE;
+        return inhibited();
     }
-    make_items(words, plan);
-    c
+    let gained = make_items(words, plan);
+    Diverted { to: c, gained }
 }
 
-// Judges what a call that is not refused gives, and makes it where no rule is broken. Answers the rule that stops it, or 32.
-fn give_judged(
+// What a call that can give came to: the rule that stops it, or 32, and the containers that gained.
+pub struct Gift {
+    pub rule: u8,
+    pub gained: u64,
+}
+
+// Judges a call that gives once and is not refused, and makes it where no rule is broken.
+fn gift_in(
     words: &mut [u64; 353],
     descriptors: &[u8; 512],
     names: &[u8; 128],
     sets: &[u64; 32],
     fields: &[u8; 129],
     q: Call,
-) -> u8
-    requires { ⌜ Passes (now words) (now descriptors) (now names) q ⌝ }
-    ensures { λ k. ⌜ Gives (monitorBefore words descriptors names sets fields) q k (now (words .exit)) ⌝ }
+) -> Gift
+    requires { ⌜ Passes (now words) (now descriptors) (now names) q × GivesOnce q ⌝ }
+    ensures { λ g. ⌜ Gives (monitorBefore words descriptors names sets fields) q (g .rule) (monitorAfter words descriptors names sets fields) (g .gained) ⌝ }
 {
-    let plan = plan_of(words, descriptors, names, q);
+    let plan = gift_of(words, descriptors, names, q);
     let k = first_anew(words, plan, sets, fields);
     if k != count(fields) {
-        return k;
+        return Gift { rule: k, gained: 0 };
     }
-    make_items(words, plan);
-    RULE_COUNT
+    let gained = make_items(words, plan);
+    finish_gift(words, descriptors, names, q);
+    Gift {
+        rule: RULE_COUNT,
+        gained,
+    }
 }
 
-// The same of every kind: those that cannot give are neither planned nor judged. Apart, so that the compiler leads them past it.
-fn give_in(
+// The same of a map both.
+fn exchange_in(
     words: &mut [u64; 353],
     descriptors: &[u8; 512],
     names: &[u8; 128],
     sets: &[u64; 32],
     fields: &[u8; 129],
     q: Call,
-) -> u8
-    requires { ⌜ Passes (now words) (now descriptors) (now names) q ⌝ }
-    ensures { λ k. ⌜ Gives (monitorBefore words descriptors names sets fields) q k (now (words .exit)) ⌝ }
+) -> Gift
+    requires { ⌜ Passes (now words) (now descriptors) (now names) q × (q .kind ≡ 12) ⌝ }
+    ensures { λ g. ⌜ Gives (monitorBefore words descriptors names sets fields) q (g .rule) (monitorAfter words descriptors names sets fields) (g .gained) ⌝ }
 {
-    lengths(words, names);
-    if gives(q.kind) {
-        return give_judged(words, descriptors, names, sets, fields, q);
+    let plan = exchange_of(words, descriptors, names, q);
+    let k = first_anew(words, plan, sets, fields);
+    if k != count(fields) {
+        return Gift { rule: k, gained: 0 };
     }
-    RULE_COUNT
+    let gained = make_items(words, plan);
+    finish_exchange(words, descriptors, names, q);
+    Gift {
+        rule: RULE_COUNT,
+        gained,
+    }
 }
 
-// What a call of any five bytes gets.
+// The same of a fork.
+fn copy_in(
+    words: &mut [u64; 353],
+    descriptors: &mut [u8; 512],
+    names: &[u8; 128],
+    sets: &[u64; 32],
+    fields: &[u8; 129],
+    q: Call,
+) -> Gift
+    requires { ⌜ Passes (now words) (now descriptors) (now names) q × (q .kind ≡ 17) ⌝ }
+    ensures { λ g. ⌜ Gives (monitorBefore words descriptors names sets fields) q (g .rule) (monitorAfter words descriptors names sets fields) (g .gained) ⌝ }
+{
+    let plan = copy_of(words, descriptors, names, q);
+    let k = first_anew(words, plan, sets, fields);
+    if k != count(fields) {
+        return Gift { rule: k, gained: 0 };
+    }
+    let child = DEVICES + q.a;
+    let gained = replace_items(words, Container(child), plan.given);
+    finish_copy(words, descriptors, names, q);
+    Gift {
+        rule: RULE_COUNT,
+        gained,
+    }
+}
+
+// The same of any call that can give.
+fn give_in(
+    words: &mut [u64; 353],
+    descriptors: &mut [u8; 512],
+    names: &[u8; 128],
+    sets: &[u64; 32],
+    fields: &[u8; 129],
+    q: Call,
+) -> Gift
+    requires { ⌜ Passes (now words) (now descriptors) (now names) q × (givesAt (kindOf (q .kind)) ≡ true) ⌝ }
+    ensures { λ g. ⌜ Gives (monitorBefore words descriptors names sets fields) q (g .rule) (monitorAfter words descriptors names sets fields) (g .gained) ⌝ }
+{
+    let kind = q.kind;
+    match kind {
+        12 => exchange_in(words, descriptors, names, sets, fields, q),
+        17 => copy_in(words, descriptors, names, sets, fields, q),
+        _ => gift_in(words, descriptors, names, sets, fields, q),
+    }
+}
+
+// What a call of any five bytes gets. Those that cannot give are neither planned nor judged.
 pub fn call_in(
     words: &mut [u64; 353],
     descriptors: &mut [u8; 512],
@@ -157,16 +242,34 @@ pub fn call_in(
     if n != 0 {
         return Answer::Refused(n);
     }
-    let k = give_in(words, descriptors, names, sets, fields, q);
-    if k != RULE_COUNT {
-        let c = stop_in(words, descriptors, names, sets, fields, q, k);
-        if c < CONTAINERS {
-            return Answer::Modify(k, c);
-        }
-        return Answer::Inhibit(k);
+    if !gives(q.kind) {
+        finish(words, descriptors, names, q);
+        return Answer::Allow(0);
     }
-    finish(words, descriptors, names, q);
-    Answer::Allow
+    let g = give_in(words, descriptors, names, sets, fields, q);
+    if g.rule != RULE_COUNT {
+        let d = stop_in(words, descriptors, names, sets, fields, q, g.rule);
+        if d.to < CONTAINERS {
+            return Answer::Modify(g.rule, d.to, d.gained);
+        }
+        return Answer::Inhibit(g.rule);
+    }
+    Answer::Allow(g.gained)
+}
+
+// The same, as a number: through the library an answer itself would lie in memory.
+pub fn call_code(
+    words: &mut [u64; 353],
+    descriptors: &mut [u8; 512],
+    names: &mut [u8; 128],
+    sets: &[u64; 32],
+    fields: &[u8; 129],
+    q: Call,
+) -> u32
+    ensures { λ r. ⌜ Coded (Answers (monitorBefore words descriptors names sets fields) (aCall (callIn q))) r (monitorAfter words descriptors names sets fields) ⌝ }
+{
+    let answer = call_in(words, descriptors, names, sets, fields, q);
+    code(answer)
 }
 
 // What a rule gets.
@@ -252,6 +355,39 @@ pub fn answer_in(
     }
 }
 
+// The same, as a number.
+pub fn answer_code(
+    words: &mut [u64; 353],
+    descriptors: &mut [u8; 512],
+    names: &mut [u8; 128],
+    sets: &mut [u64; 32],
+    fields: &mut [u8; 129],
+    bytes: &[u8],
+) -> u32
+    ensures { λ r. ⌜ Coded (AnswersRecord (monitorBefore words descriptors names sets fields) (now (bytes .entry))) r (monitorAfter words descriptors names sets fields) ⌝ }
+{
+    let record = read(bytes);
+    match record {
+        Record::Unreadable(n) => code(Answer::Refused(n)),
+        Record::Call(kind, process, a, b, c) => {
+            let q = call(kind, process, a, b, c);
+            call_code(words, descriptors, names, sets, fields, q)
+        }
+        Record::Forbid(item, set, action, substitute) => {
+            let r = rule(FORBID_TAG, item, set, action, substitute);
+            code(load_in(words, sets, fields, r))
+        }
+        Record::Separate(item, other, action, substitute) => {
+            let r = rule(SEPARATE_TAG, item, other as u64, action, substitute);
+            code(load_in(words, sets, fields, r))
+        }
+        Record::Confine(item, set, action, substitute) => {
+            let r = rule(CONFINE_TAG, item, set, action, substitute);
+            code(load_in(words, sets, fields, r))
+        }
+    }
+}
+
 // Answers the records of a log in order. Each answer goes to the front of `codes` as a number.
 pub fn run_in(
     words: &mut [u64; 353],
@@ -271,8 +407,7 @@ pub fn run_in(
     let mut n = 0usize;
     while at < log.len() {
         let end = end_after(log, at);
-        let answer = answer_in(words, descriptors, names, sets, fields, &log[at..end]);
-        codes[n] = code(answer);
+        codes[n] = answer_code(words, descriptors, names, sets, fields, &log[at..end]);
         at = end;
         n += 1;
     }

@@ -24,13 +24,13 @@ pub struct Monitor {
     pub fields: [u8; 129],
 }
 
-// What a record gets.
+// What a record gets. Allow and modify end with the set of the containers that gained an item (document 02, Paper 5).
 pub enum Answer {
     Refused(u8),
     Loaded(u8),
-    Allow,
+    Allow(u64),
     Inhibit(u8),
-    Modify(u8, u8),
+    Modify(u8, u8, u64),
 }
 
 pub struct Answered {

@@ -1,9 +1,12 @@
 // A whole log: how many records it has, and answers as numbers.
 use crate::Answer;
 use logreader::end_after;
+ghost use Prim.Native.Nat.{_≤_};
 ghost use mathlib.Core.Path.{_≡_};
 ghost use lib.Dec.{leb};
 ghost use lib.ListN.{length};
+ghost use Rattle.sets.specs.Sets.{members};
+ghost use Rattle.flow.specs.Box.{containerCount};
 ghost use Rattle.flow.specs.Records.{recordsOf};
 ghost use Rattle.decision.specs.Answers.{wordOf};
 ghost use Rattle.decision.specs.Logs.{codeOf};
@@ -32,14 +35,28 @@ pub fn has_room(log: &[u8], room: usize) -> bool
     records_in(log) <= room
 }
 
+// How many members a set has: most often none or one, which is found sooner than by counting.
+fn size(x: u64) -> u32
+    ensures { λ r. ⌜ (r ≡ length (members x)) × (r ≤ containerCount) ⌝ }
+{
+    if x == 0 {
+        return 0;
+    }
+    let more = sets::rest(x);
+    if more == 0 {
+        return 1;
+    }
+    1 + sets::count(more)
+}
+
 // An answer as a number.
 pub fn code(answer: Answer) -> u32
     ensures { λ r. ⌜ r ≡ codeOf (wordOf answer) ⌝ }
 {
     match answer {
-        Answer::Allow => 0,
+        Answer::Allow(g) => 16777216 * size(g),
         Answer::Inhibit(n) => 1 + 256 * (n as u32),
-        Answer::Modify(n, c) => 2 + 256 * (n as u32) + 65536 * (c as u32),
+        Answer::Modify(n, c, g) => 2 + 256 * (n as u32) + 65536 * (c as u32) + 16777216 * size(g),
         Answer::Loaded(n) => 3 + 256 * (n as u32),
         Answer::Refused(n) => 4 + 256 * (n as u32),
     }

@@ -13,7 +13,7 @@ use Rattle.flow.specs.Calls.{mapBoth, Call, Flow, still, gift, arrival, 
 use Rattle.flow.specs.Rules.{lowestBroken}
 use Rattle.flow.specs.Records.{Reading, unreadable, aCall, aRule, reading, callOf}
 use Rattle.flow.specs.Refusals.{callTests}
-use Rattle.flow.specs.Verdicts.{Outcome, refuses, loads, allows, inhibits, modifies, verdictBy, verdict, outcomeOfCall, outcomeOf, outcome, stateAfter, next}
+use Rattle.flow.specs.Verdicts.{Outcome, refuses, loads, allows, inhibits, modifies, verdictAt, verdict, outcomeOfCall, outcomeOf, outcome, stateAfter, next}
 use Rattle.flow.specs.Contents.{Step, entry, memory, stepState, stepAt, stateAt}
 use Rattle.flow.specs.AtOnce.{MapBothInSequence, movedAtOnce, afterAtOnce, verdictAtOnce, outcomeOfCallAtOnce, outcomeOfAtOnce, outcomeAtOnce, stateAfterAtOnce, nextAtOnce, stepStateAtOnce, stateAtOnce, FormsAgree, torn, Torn, NeverTorn}
 use Rattle.flow.specs.Kept.{Kept, EveryRecordKeeps}
@@ -63,7 +63,7 @@ module _ (s : State) (k : Invariant s) where
   verdict-same : (q : Call) → Accepted (s .tables) q → verdictAtOnce s q ≡ verdict s q
   unfolding verdictAtOnce verdict change
   verdict-same q h =
-      ap (λ (z : State). verdictBy s q (lowestBroken z)) (after-same (change (s .tables) q) (fits-after (s .tables) (k .linking) (q .process) (q .a) (q .b) (q .c) (q .kind) h))
+      ap (verdictAt s q) (after-same (change (s .tables) q) (fits-after (s .tables) (k .linking) (q .process) (q .a) (q .b) (q .c) (q .kind) h))
 
   call-same : (q : Option Call) (o : Option ℕ) → firstThat (callTests (s .tables) q) ≡ o → outcomeOfCallAtOnce s q o ≡ outcomeOfCall s q o
   unfolding outcomeOfCallAtOnce outcomeOfCall
@@ -86,9 +86,9 @@ module _ (s : State) (k : Invariant s) where
   unfolding stateAfterAtOnce stateAfter Sound
   left-same q (refuses n) m = refl
   left-same q (loads n r) m = refl
-  left-same q (allows x) m = after-same x (m .fit)
+  left-same q (allows x g) m = after-same x (m .fit)
   left-same q (inhibits n) m = refl
-  left-same q (modifies n c x) m = after-same x (m .fit)
+  left-same q (modifies n c x g) m = after-same x (m .fit)
 
   next-same : (bytes : List ℕ) → nextAtOnce s bytes ≡ next s bytes
   unfolding nextAtOnce next

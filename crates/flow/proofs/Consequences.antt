@@ -16,13 +16,14 @@ use Rattle.flow.specs.Calls.{Call, Change, change, after}
 use Rattle.flow.specs.Rules.{Numbered, lowestBroken}
 use Rattle.flow.specs.Records.{Reading, unreadable, aCall, aRule, reading, callRead, callOf, recordsOf}
 use Rattle.flow.specs.Refusals.{callTests, testsOf, refusal}
-use Rattle.flow.specs.Verdicts.{Outcome, refuses, loads, allows, inhibits, modifies, diversion, mayDivert, breaksNone, stopped, verdictBy, verdict, outcomeOfCall, outcomeOfRule, outcomeOf, outcome, refused, rule, allow, inhibit, answerOf, answer, stateAfter, next, answerAll, runLog}
+use Rattle.flow.specs.Verdicts.{Outcome, refuses, loads, allows, inhibits, modifies, diversion, mayDivert, breaksNone, gainedFrom, stopped, verdictBy, verdictAt, verdict, outcomeOfCall, outcomeOfRule, outcomeOf, outcome, refused, rule, allow, inhibit, answerOf, answer, stateAfter, next, answerAll, runLog}
 use Rattle.flow.specs.Contents.{Step, entry, memory, stepState, stateAt}
-use Rattle.flow.specs.Consequences.{LinksByCounts, PassedBreaksNone, VerdictExactly, NoGainAllowed, StoppedKeeps, OneAnswerEach, AnswersInOrder, LogIsSteps}
+use Rattle.flow.specs.Consequences.{LinksByCounts, PassedBreaksNone, GainTold, VerdictExactly, NoGainAllowed, StoppedKeeps, OneAnswerEach, AnswersInOrder, LogIsSteps}
 use Rattle.flow.proofs.Bools.{by, no-both, choice}
 use Rattle.flow.proofs.TableLaws.{none-is}
 use Rattle.flow.proofs.Refused.{refusal-read}
 use Rattle.flow.proofs.Judging.{none-broken}
+use Rattle.flow.proofs.Gaining.{adds-none}
 use Rattle.flow.proofs.Reach.{link-cases, link-in, link-out}
 use Rattle.flow.proofs.Rows.{target-not}
 use Rattle.flow.proofs.Mapping.{fed-by-count, feeder-by-count}
@@ -48,29 +49,29 @@ pub links-by-counts : LinksByCounts
 unfolding LinksByCounts
 links-by-counts t p c hp hc = (from-target t p c hp hc ∙ feeder-by-count t p c, to-target t p c hp hc ∙ fed-by-count t p c)
 
--- ---- no rule is broken after a change
+-- ---- no rule is broken after a change, and what gained by it is told
 unfoldable Whole : State → Outcome → Type 0
 Whole s (refuses n) = Unit {0}
 Whole s (loads n r) = Unit {0}
-Whole s (allows x) = lowestBroken (after s x) ≡ none
+Whole s (allows x g) = (lowestBroken (after s x) ≡ none) × (g ≡ gainedFrom s (after s x))
 Whole s (inhibits n) = Unit {0}
-Whole s (modifies n c x) = lowestBroken (after s x) ≡ none
+Whole s (modifies n c x g) = (lowestBroken (after s x) ≡ none) × (g ≡ gainedFrom s (after s x))
 
 module _ (s : State) where
   stopped-whole : (q : Call) (n : ℕ) (r : Rule) → Whole s (stopped s q n r)
   unfolding stopped Whole breaksNone
   stopped-whole q n r =
       choice (Whole s) (mayDivert s q r) _ _
-      (λ e. choice (Whole s) (breaksNone (after s (diversion s q r))) _ _ (λ f. none-is (lowestBroken (after s (diversion s q r))) f) (λ f. tt))
+      (λ e. choice (Whole s) (breaksNone (after s (diversion s q r))) _ _ (λ f. (none-is (lowestBroken (after s (diversion s q r))) f, refl)) (λ f. tt))
       (λ e. tt)
 
-  verdict-whole : (q : Call) (o : Option Numbered) → lowestBroken (after s (change (s .tables) q)) ≡ o → Whole s (verdictBy s q o)
+  verdict-whole : (q : Call) (o : Option Numbered) → lowestBroken (after s (change (s .tables) q)) ≡ o → Whole s (verdictBy s q (after s (change (s .tables) q)) o)
   unfolding verdictBy Whole
-  verdict-whole q none e = e
+  verdict-whole q none e = (e, refl)
   verdict-whole q (some x) e = stopped-whole q (x .number) (x .rule)
 
   call-whole : (q : Option Call) (o : Option ℕ) → Whole s (outcomeOfCall s q o)
-  unfolding outcomeOfCall verdict Whole
+  unfolding outcomeOfCall verdict verdictAt Whole
   call-whole none none = tt
   call-whole (some q) none = verdict-whole q _ refl
   call-whole none (some n) = tt
@@ -89,7 +90,11 @@ module _ (s : State) where
 
 pub passed-breaks-none : PassedBreaksNone
 unfolding PassedBreaksNone outcome Whole
-passed-breaks-none s bytes x = (λ e. rw e at (read-whole s (reading bytes)), λ n c e. rw e at (read-whole s (reading bytes)))
+passed-breaks-none s bytes x g = (λ e. (rw e at (read-whole s (reading bytes))) .0, λ n c e. (rw e at (read-whole s (reading bytes))) .0)
+
+pub gain-told : GainTold
+unfolding GainTold outcome Whole
+gain-told s bytes x g = (λ e. (rw e at (read-whole s (reading bytes))) .1, λ n c e. (rw e at (read-whole s (reading bytes))) .1)
 
 -- ---- the verdict
 read-call : (x : Reading) (q : Call) → callRead x ≡ some q → x ≡ aCall (some q)
@@ -106,19 +111,19 @@ call-verdict s bytes q e f =
     let h : firstThat (callTests (s .tables) (some q)) ≡ none = rw r at (sym (refusal-read s bytes) ∙ e) in
     rw (r, h) refl
 
-inhibited : (x : Numbered) (d : Change) (b w : Bool) → (b && w) ≡ false
-    → _≡_ {A = Outcome} (elim b as (λ z. Outcome) [ true ↦ elim w as (λ z. Outcome) [ true ↦ modifies (x .number) (x .rule .substitute) d | false ↦ inhibits (x .number) ] | false ↦ inhibits (x .number) ]) (inhibits (x .number))
-inhibited x d true true m = cc
-inhibited x d true false m = refl
-inhibited x d false w m = refl
+inhibited : (x : Numbered) (d : Change) (g : ℕ) (b w : Bool) → (b && w) ≡ false
+    → _≡_ {A = Outcome} (elim b as (λ z. Outcome) [ true ↦ elim w as (λ z. Outcome) [ true ↦ modifies (x .number) (x .rule .substitute) d g | false ↦ inhibits (x .number) ] | false ↦ inhibits (x .number) ]) (inhibits (x .number))
+inhibited x d g true true m = cc
+inhibited x d g true false m = refl
+inhibited x d g false w m = refl
 
 pub verdict-exactly : VerdictExactly
-unfolding VerdictExactly verdict verdictBy stopped breaksNone isNone
+unfolding VerdictExactly verdict verdictAt verdictBy stopped breaksNone isNone
 verdict-exactly s bytes q e f = (
   λ h. call-verdict s bytes q e f ∙ rw h refl,
   λ x h. (
     λ m w. call-verdict s bytes q e f ∙ rw (h, verdictBy, m, stopped, w) refl,
-    λ m. call-verdict s bytes q e f ∙ rw h (inhibited x (diversion s q (x .rule)) (mayDivert s q (x .rule)) (breaksNone (after s (diversion s q (x .rule)))) m),
+    λ m. call-verdict s bytes q e f ∙ rw h (inhibited x (diversion s q (x .rule)) (gainedFrom s (after s (diversion s q (x .rule)))) (mayDivert s q (x .rule)) (breaksNone (after s (diversion s q (x .rule)))) m),
   ),
 )
 
@@ -128,8 +133,8 @@ unfolding lowestBroken after
 none-after s q less whole = none-broken (after s (change (s .tables) q)) s less 0 _ whole
 
 pub no-gain-allowed : NoGainAllowed
-unfolding NoGainAllowed verdict verdictBy
-no-gain-allowed s bytes q whole e f less = call-verdict s bytes q e f ∙ rw unbroken refl
+unfolding NoGainAllowed verdict verdictAt verdictBy
+no-gain-allowed s bytes q whole e f less = call-verdict s bytes q e f ∙ rw unbroken (ap (allows (change (s .tables) q)) (adds-none s (after s (change (s .tables) q)) less))
   where
     unbroken : lowestBroken (after s (change (s .tables) q)) ≡ none
     unbroken = none-after s q less whole
@@ -139,9 +144,9 @@ stopped-keeps-by : (s : State) (o : Outcome) (n : ℕ) → (answerOf o ≡ refus
 unfolding answerOf stateAfter
 stopped-keeps-by s (refuses k) n = (λ e. refl, λ e. refl)
 stopped-keeps-by s (loads k r) n = (λ e. cc, λ e. cc)
-stopped-keeps-by s (allows x) n = (λ e. cc, λ e. cc)
+stopped-keeps-by s (allows x g) n = (λ e. cc, λ e. cc)
 stopped-keeps-by s (inhibits k) n = (λ e. refl, λ e. refl)
-stopped-keeps-by s (modifies k c x) n = (λ e. cc, λ e. cc)
+stopped-keeps-by s (modifies k c x g) n = (λ e. cc, λ e. cc)
 
 pub stopped-keeps : StoppedKeeps
 unfolding StoppedKeeps answer next
@@ -157,7 +162,7 @@ pub one-answer-each : OneAnswerEach
 unfolding OneAnswerEach runLog
 one-answer-each s log = answers-each s (recordsOf log)
 
-answer-at : (s : State) (rs : List (List ℕ)) (k : ℕ) → k < length rs → getD (answerAll s rs .answers) k allow ≡ answer (answerAll s (take k rs) .state) (getD rs k [])
+answer-at : (s : State) (rs : List (List ℕ)) (k : ℕ) → k < length rs → getD (answerAll s rs .answers) k (allow 0) ≡ answer (answerAll s (take k rs) .state) (getD rs k [])
 unfolding answerAll answer
 answer-at s [] k h = absurd (not-suc-le-zero h)
 answer-at s (r ∷ rs) zero h = refl

@@ -99,9 +99,9 @@ module _ (s : State) (k : Invariant s) (κ : ℕ → ℕ) (mirrors : Mirrors s �
   unfolding stateAfter contentsAfter Sound withRule itemsOf
   mirror-outcome q (refuses j) h e = mirrors
   mirror-outcome q (loads j r) h e = mirrors
-  mirror-outcome q (allows y) h e = mirror-change q y h e
+  mirror-outcome q (allows y g) h e = mirror-change q y h e
   mirror-outcome q (inhibits j) h e = mirrors
-  mirror-outcome q (modifies j c y) h e = mirror-change q y h e
+  mirror-outcome q (modifies j c y g) h e = mirror-change q y h e
 
   mirror-step : (y : Step) → ((i : ℕ) → itemLabelled y ≡ some i → x ≡ only i) → Mirrors (stepState s y) (stepContents collecting n x s y κ)
   unfolding stepState stepContents itemLabelled collecting
@@ -153,9 +153,9 @@ module _ (i : ℕ) where
     unfolding contentsAfter
     lack-outcome (refuses j) = lack
     lack-outcome (loads j r) = lack
-    lack-outcome (allows y) = lack-change y
+    lack-outcome (allows y g) = lack-change y
     lack-outcome (inhibits j) = lack
-    lack-outcome (modifies j c y) = lack-change y
+    lack-outcome (modifies j c y g) = lack-change y
 
     lack-step : (y : Step) → Lack (stepContents collecting n x s y κ)
     unfolding stepContents collecting

@@ -114,9 +114,9 @@ pub outcome-kept : (s : State) (q : Option Call) (o : Outcome) → Invariant s �
 unfolding stateAfter Sound
 outcome-kept s q (refuses n) k h = k
 outcome-kept s q (loads n r) k h = rule-kept s r k (h .0) (h .1) (h .2)
-outcome-kept s q (allows x) k h = made-kept s q x k h
+outcome-kept s q (allows x g) k h = made-kept s q x k h
 outcome-kept s q (inhibits n) k h = k
-outcome-kept s q (modifies n c x) k h = made-kept s q x k h
+outcome-kept s q (modifies n c x g) k h = made-kept s q x k h
 
 pub sound : (s : State) → Invariant s → (bytes : List ℕ) → Sound s (callOf bytes) (outcome s bytes)
 sound s k bytes = outcome-sound s (k .linking) (k .entries) (k .quiet) bytes (k .loadable)

@@ -21,10 +21,12 @@ pub mod Outcomes
 pub mod Keeping
 pub mod TwoRuns
 pub mod Exact
+pub mod Fork
+pub mod GainLaws
+pub mod Gaining
 pub mod Filling
 pub mod Runs
 pub mod AtOnce
 pub mod Consequences
 pub mod CountsAfter
 pub mod Holders
-pub mod Fork

@@ -16,7 +16,7 @@ use Rattle.flow.specs.Calls.{Kind, start, openName, create, pipe, device
 use Rattle.flow.specs.Rules.{broken, Numbered, lowestBroken}
 use Rattle.flow.specs.Records.{Reading, unreadable, aCall, aRule, reading, callRead, callOf}
 use Rattle.flow.specs.Refusals.{inRange, ranges, fieldsFit, itemsFit, substituteFits, fieldTests, callTests, ruleTests}
-use Rattle.flow.specs.Verdicts.{Outcome, refuses, loads, allows, inhibits, modifies, diversion, mayDivert, breaksNone, stopped, verdictBy, verdict, outcomeOfCall, outcomeOfRule, outcomeOf, outcome}
+use Rattle.flow.specs.Verdicts.{Outcome, refuses, loads, allows, inhibits, modifies, diversion, mayDivert, breaksNone, stopped, verdictBy, verdictAt, verdict, outcomeOfCall, outcomeOfRule, outcomeOf, outcome}
 use Rattle.flow.specs.Contents.{labelOf}
 use Rattle.flow.specs.Kept.{wellFormed, allWellFormed}
 use Rattle.flow.specs.Consequences.{LowestIn, this, past}
@@ -43,9 +43,9 @@ pub record Made (s : State) (q : Option Call) (x : Change) : Type 0 where
 unfoldable pub Sound : State → Option Call → Outcome → Type 0
 Sound s q (refuses n) = Unit {0}
 Sound s q (loads n r) = (broken s r ≡ false) × (wellFormed r ≡ true) × (length (s .rules) < 32)
-Sound s q (allows x) = Made s q x
+Sound s q (allows x g) = Made s q x
 Sound s q (inhibits n) = Unit {0}
-Sound s q (modifies n c x) = Made s q x
+Sound s q (modifies n c x g) = Made s q x
 
 -- only a label brings an item in
 label-brings : (t : Tables) (p a b c : ℕ) (kind : Kind) (u i : ℕ) → flowBy t p a b c kind ≡ arrival u i → labelOf (some (record { kind = kind; process = p; a = a; b = b; c = c })) ≡ some i
@@ -146,7 +146,7 @@ module _ (s : State) (k : Linking (s .tables)) (t : Entries (s .tables)) (u : Qu
       (λ e. choice (Sound s (some q)) (breaksNone (after s (diversion s q r))) _ _ (λ f. diversion-made q r h w e (none-is (lowestBroken (after s (diversion s q r))) f)) (λ f. tt))
       (λ e. tt)
 
-  verdict-sound : (q : Call) (o : Option Numbered) → Accepted (s .tables) q → lowestBroken (after s (change (s .tables) q)) ≡ o → allWellFormed (s .rules) ≡ true → Sound s (some q) (verdictBy s q o)
+  verdict-sound : (q : Call) (o : Option Numbered) → Accepted (s .tables) q → lowestBroken (after s (change (s .tables) q)) ≡ o → allWellFormed (s .rules) ≡ true → Sound s (some q) (verdictBy s q (after s (change (s .tables) q)) o)
   unfolding verdictBy Sound lowestBroken after
   verdict-sound q none h e w = change-made q h e
   verdict-sound q (some x) h e w =
@@ -154,7 +154,7 @@ module _ (s : State) (k : Linking (s .tables)) (t : Entries (s .tables)) (u : Qu
 
   -- ---- a record
   call-sound : (q : Option Call) (o : Option ℕ) → firstThat (callTests (s .tables) q) ≡ o → allWellFormed (s .rules) ≡ true → Sound s q (outcomeOfCall s q o)
-  unfolding outcomeOfCall verdict Sound
+  unfolding outcomeOfCall verdict verdictAt Sound
   call-sound none none e w = tt
   call-sound (some q) none e w = verdict-sound q _ (accepted (s .tables) q e) refl w
   call-sound none (some n) e w = tt

@@ -11,7 +11,7 @@ use Rattle.flow.specs.Calls.{Call, change, after}
 use Rattle.flow.specs.Rules.{Numbered, lowestBroken}
 use Rattle.flow.specs.Records.{Reading, unreadable, aCall, aRule, frameTests, contentOf, readingBy, reading}
 use Rattle.flow.specs.Refusals.{callTests, testsOf, recordTests, refusal}
-use Rattle.flow.specs.Verdicts.{Outcome, refuses, loads, allows, inhibits, modifies, diversion, mayDivert, breaksNone, stopped, verdictBy, verdict, outcomeOfCall, outcomeOfRule, outcomeOf, outcome, refused, answerOf, answer}
+use Rattle.flow.specs.Verdicts.{Outcome, refuses, loads, allows, inhibits, modifies, diversion, mayDivert, breaksNone, stopped, verdictBy, verdictAt, verdict, outcomeOfCall, outcomeOfRule, outcomeOf, outcome, refused, answerOf, answer}
 use Rattle.flow.specs.Consequences.{RefusedExactly}
 use Rattle.flow.proofs.Bools.{choice}
 use Rattle.flow.proofs.TableLaws.{first-some, first-none}
@@ -20,31 +20,31 @@ use Rattle.flow.proofs.TableLaws.{first-some, first-none}
 unfoldable Accepts : Outcome → Type 0
 Accepts (refuses n) = ⊥
 Accepts (loads n r) = Unit {0}
-Accepts (allows x) = Unit {0}
+Accepts (allows x g) = Unit {0}
 Accepts (inhibits n) = Unit {0}
-Accepts (modifies n c x) = Unit {0}
+Accepts (modifies n c x g) = Unit {0}
 
 stopped-accepts : (s : State) (q : Call) (n : ℕ) (r : Rule) → Accepts (stopped s q n r)
 unfolding stopped Accepts
 stopped-accepts s q n r = choice Accepts (mayDivert s q r) _ _ (λ e. choice Accepts (breaksNone (after s (diversion s q r))) _ _ (λ f. tt) (λ f. tt)) (λ e. tt)
 
-verdict-accepts : (s : State) (q : Call) (o : Option Numbered) → Accepts (verdictBy s q o)
+verdict-accepts : (s : State) (q : Call) (t : State) (o : Option Numbered) → Accepts (verdictBy s q t o)
 unfolding verdictBy Accepts
-verdict-accepts s q none = tt
-verdict-accepts s q (some x) = stopped-accepts s q (x .number) (x .rule)
+verdict-accepts s q t none = tt
+verdict-accepts s q t (some x) = stopped-accepts s q (x .number) (x .rule)
 
 not-refused : (o : Outcome) (n : ℕ) → Accepts o → answerOf o ≡ refused n → none ≡ some n
 unfolding Accepts answerOf
 not-refused (refuses k) n a e = absurd a
 not-refused (loads k r) n a e = cc
-not-refused (allows x) n a e = cc
+not-refused (allows x g) n a e = cc
 not-refused (inhibits k) n a e = cc
-not-refused (modifies k c x) n a e = cc
+not-refused (modifies k c x g) n a e = cc
 
 refused-call : (s : State) (q : Option Call) (o : Option ℕ) (n : ℕ) → firstThat (callTests (s .tables) q) ≡ o → answerOf (outcomeOfCall s q o) ≡ refused n ↔ o ≡ some n
-unfolding outcomeOfCall verdict answerOf callTests firstThat
+unfolding outcomeOfCall verdict verdictAt answerOf callTests firstThat
 refused-call s none none n e = absurd (let z : _≡_ {A = ℕ} 0 1 = cc in let y : ⊥ = omega arith in y)
-refused-call s (some q) none n e = (not-refused (verdict s q) n (verdict-accepts s q (lowestBroken (after s (change (s .tables) q)))), λ d. cc)
+refused-call s (some q) none n e = (not-refused (verdict s q) n (let t : State = after s (change (s .tables) q) in verdict-accepts s q t (lowestBroken t)), λ d. cc)
 refused-call s none (some k) n e = (λ d. cc, λ d. cc)
 refused-call s (some q) (some k) n e = (λ d. cc, λ d. cc)
 

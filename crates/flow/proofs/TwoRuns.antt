@@ -149,9 +149,9 @@ module _ (W : Type 0) (M : Machine W) (chosen : ℕ → Bool) where
     unfolding stateAfter contentsAfter Sound withRule holds itemsOf
     record-same q (refuses j) h equal = same
     record-same q (loads j r) h equal = same
-    record-same q (allows x) h equal = changed-same q x h equal
+    record-same q (allows x g) h equal = changed-same q x h equal
     record-same q (inhibits j) h equal = same
-    record-same q (modifies j c x) h equal = changed-same q x h equal
+    record-same q (modifies j c x g) h equal = changed-same q x h equal
 
     -- what links to a clean container is clean
     seen-same : (v : ℕ) → v < 64 → Free chosen (holds s v) → (u : ℕ) → u ≤ 64 → linkedTo M s κ₁ v u ≡ linkedTo M s κ₂ v u
@@ -189,9 +189,9 @@ outcome-forbids : (s : State) (q : Option Call) (o : Outcome) (c i : ℕ) → So
 unfolding stateAfter Sound withRule after
 outcome-forbids s q (refuses n) c i h f = f
 outcome-forbids s q (loads n r) c i h f = forbidden-more c i (r ∷ []) f
-outcome-forbids s q (allows x) c i h f = f
+outcome-forbids s q (allows x g) c i h f = f
 outcome-forbids s q (inhibits n) c i h f = f
-outcome-forbids s q (modifies n d x) c i h f = f
+outcome-forbids s q (modifies n d x g) c i h f = f
 
 step-forbids : (s : State) (x : Step) (c i : ℕ) → Invariant s → Forbidden c i (s .rules) → Forbidden c i (stepState s x .rules)
 unfolding stepState

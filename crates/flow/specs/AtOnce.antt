@@ -14,7 +14,7 @@ use Rattle.flow.specs.Calls.{Kind, read, write, mapBoth, Call, Flow, sti
 use Rattle.flow.specs.Rules.{lowestBroken}
 use Rattle.flow.specs.Records.{Reading, unreadable, aCall, aRule, reading}
 use Rattle.flow.specs.Refusals.{callTests}
-use Rattle.flow.specs.Verdicts.{Outcome, refuses, loads, allows, inhibits, modifies, verdictBy, outcomeOf, outcome, allow, inhibit, answerOf, answer, withRule, next, runLog}
+use Rattle.flow.specs.Verdicts.{Outcome, refuses, loads, allows, inhibits, modifies, verdictAt, outcomeOf, outcome, allow, inhibit, answerOf, answer, withRule, next, runLog}
 use Rattle.flow.specs.Contents.{Step, entry, memory, stepAt, stateAt}
 use Rattle.flow.specs.Runs.{call, twoSides}
 
@@ -49,7 +49,7 @@ afterAtOnce s x =
 
 -- a diverted write is a gift, which moves items alike by both forms
 unfoldable pub verdictAtOnce : State → Call → Outcome
-verdictAtOnce s q = verdictBy s q (lowestBroken (afterAtOnce s (change (s .tables) q)))
+verdictAtOnce s q = verdictAt s q (afterAtOnce s (change (s .tables) q))
 
 unfoldable pub outcomeOfCallAtOnce : State → Option Call → Option ℕ → Outcome
 outcomeOfCallAtOnce s q (some n) = refuses n
@@ -67,9 +67,9 @@ outcomeAtOnce s bytes = outcomeOfAtOnce s (reading bytes)
 unfoldable pub stateAfterAtOnce : State → Outcome → State
 stateAfterAtOnce s (refuses n) = s
 stateAfterAtOnce s (loads n r) = withRule s r
-stateAfterAtOnce s (allows x) = afterAtOnce s x
+stateAfterAtOnce s (allows x g) = afterAtOnce s x
 stateAfterAtOnce s (inhibits n) = s
-stateAfterAtOnce s (modifies n c x) = afterAtOnce s x
+stateAfterAtOnce s (modifies n c x g) = afterAtOnce s x
 
 unfoldable pub nextAtOnce : State → List ℕ → State
 nextAtOnce s bytes = stateAfterAtOnce s (outcomeAtOnce s bytes)
@@ -113,4 +113,4 @@ FormsDiffer =
     let against : List Rule = record { condition = forbid 1 (only 9); action = 0; substitute = 0 } ∷ [] in
     (map (itemsOf (next (torn []) bytes)) containers ≡ 6 ∷ 2 ∷ 6 ∷ 6 ∷ [])
     × (map (itemsOf (nextAtOnce (torn []) bytes)) containers ≡ 6 ∷ 2 ∷ 6 ∷ 4 ∷ [])
-    × (answer (torn against) bytes ≡ inhibit 0) × (answerOf (outcomeAtOnce (torn against) bytes) ≡ allow))
+    × (answer (torn against) bytes ≡ inhibit 0) × (answerOf (outcomeAtOnce (torn against) bytes) ≡ allow 4))

@@ -1,5 +1,5 @@
--- Short consequences of the definitions. They hold for every state and every byte string, but for CountsAfter, LogIsSteps and ForkCopies,
--- which speak of the states that steps make.
+-- Short consequences of the definitions. They hold for every state and every byte string, but for CountsAfter, LogIsSteps, ForkTells and
+-- ForkCopies, which speak of the states that steps make.
 use Prim.Native.Nat.{ℕ, suc, _-_, _≤_, _<_}
 use mathlib.Core.Path.{_≡_}
 use mathlib.Core.Logic.{_⊎_, _↔_}
@@ -8,14 +8,16 @@ use mathlib.Core.List.{List, [], _∷_, _++_, map}
 use mathlib.Core.Option.{none, some}
 use lib.Dec.{ltb, eqb}
 use lib.ListN.{getD, length, take, drop}
+use Rattle.sets.specs.Sets.{has, only, members, _∪_}
 use Rattle.flow.specs.Lists.{isIn, Test, firstThat}
 use Rattle.flow.specs.Box.{containerCount, itemCount, processCount, descriptorCount, isTarget, containerOf, Rule, Tables, State, itemsOf, Sort, toRead, bothWays, mappings, holds, descriptor, isOpen, isBound}
-use Rattle.flow.specs.Links.{linked, used}
-use Rattle.flow.specs.Calls.{Kind, mapRead, mapBoth, unmap, fork, exit, kindNumber, Call, isKind, sortOf, Change, change, after}
+use Rattle.flow.specs.Links.{linked, reach, used}
+use Rattle.flow.specs.Calls.{Kind, mapRead, mapBoth, unmap, fork, exit, kindNumber, Call, isKind, sortOf, Flow, still, gift, arrival, exchange, copy, clear, Change, change, after}
 use Rattle.flow.specs.Rules.{broken, Numbered, lowestBroken}
 use Rattle.flow.specs.Records.{recordLength, kindOf, frameTests, callOf, recordsOf}
 use Rattle.flow.specs.Refusals.{Need, openDescriptor, boundName, aMapping, usedContainer, needOf, callTests, ruleTests, recordTests, refusal}
-use Rattle.flow.specs.Verdicts.{allows, inhibits, modifies, diversion, mayDivert, breaksNone, outcome, refused, allow, inhibit, answer, next, answerAll, runLog}
+use Rattle.flow.specs.Gained.{gained}
+use Rattle.flow.specs.Verdicts.{allows, inhibits, modifies, diversion, mayDivert, breaksNone, gainedFrom, outcome, refused, allow, inhibit, answer, next, answerAll, runLog}
 use Rattle.flow.specs.Queries.{Reply, refuse, result, holders, holdersQuery, holdersSlice}
 use Rattle.flow.specs.Contents.{Step, entry, stateAt}
 
@@ -164,9 +166,9 @@ KindsNumbered = (n : ℕ) (k : Kind) → kindOf n ≡ some k ↔ n ≡ kindNumbe
 -- an allowed or modified call breaks no rule after it
 unfoldable pub PassedBreaksNone : Type 0
 PassedBreaksNone =
-    (s : State) (bytes : List ℕ) (x : Change)
-    → (outcome s bytes ≡ allows x → lowestBroken (after s x) ≡ none)
-    × ((n c : ℕ) → outcome s bytes ≡ modifies n c x → lowestBroken (after s x) ≡ none)
+    (s : State) (bytes : List ℕ) (x : Change) (g : ℕ)
+    → (outcome s bytes ≡ allows x g → lowestBroken (after s x) ≡ none)
+    × ((n c : ℕ) → outcome s bytes ≡ modifies n c x g → lowestBroken (after s x) ≡ none)
 
 -- Of a list of rules, the first with number k, x is broken and no earlier one is.
 pub data LowestIn (s : State) (x : Numbered) : ℕ → List Rule → Type 0 where
@@ -183,17 +185,61 @@ unfoldable pub VerdictExactly : Type 0
 VerdictExactly =
     (s : State) (bytes : List ℕ) (q : Call) → refusal s bytes ≡ none → callOf bytes ≡ some q
     → (let t = after s (change (s .tables) q) in
-    (lowestBroken t ≡ none → outcome s bytes ≡ allows (change (s .tables) q))
+    (lowestBroken t ≡ none → outcome s bytes ≡ allows (change (s .tables) q) (gainedFrom s t))
     × ((x : Numbered) → lowestBroken t ≡ some x
     → (let d = diversion s q (x .rule) in
-    (mayDivert s q (x .rule) ≡ true → lowestBroken (after s d) ≡ none → outcome s bytes ≡ modifies (x .number) (x .rule .substitute) d)
+    (mayDivert s q (x .rule) ≡ true → lowestBroken (after s d) ≡ none → outcome s bytes ≡ modifies (x .number) (x .rule .substitute) d (gainedFrom s (after s d)))
     × ((mayDivert s q (x .rule) && breaksNone (after s d)) ≡ false → outcome s bytes ≡ inhibits (x .number)))))
 
--- where no rule is broken, a call that adds no item anywhere is allowed
+-- where no rule is broken, a call that adds no item anywhere is allowed, and nothing gains
 unfoldable pub NoGainAllowed : Type 0
 NoGainAllowed =
     (s : State) (bytes : List ℕ) (q : Call) → lowestBroken s ≡ none → refusal s bytes ≡ none → callOf bytes ≡ some q
-    → ((c i : ℕ) → c < containerCount → holds (after s (change (s .tables) q)) c i ≡ true → holds s c i ≡ true) → outcome s bytes ≡ allows (change (s .tables) q)
+    → ((c i : ℕ) → c < containerCount → holds (after s (change (s .tables) q)) c i ≡ true → holds s c i ≡ true) → outcome s bytes ≡ allows (change (s .tables) q) 0
+
+-- 02, Paper 5: a container is among those that gained exactly if it holds an item after that it lacked before
+unfoldable pub GainedExactly : Type 0
+GainedExactly =
+    (before after : List ℕ) (c : ℕ)
+    → has (gained before after) c ≡ true
+    ↔ (c < containerCount) × ((i : ℕ) × (has (getD after c 0) i ≡ true) × (has (getD before c 0) i ≡ false))
+
+-- so they are 64 at most
+unfoldable pub GainedAtMost : Type 0
+GainedAtMost = (before after : List ℕ) → length (members (gained before after)) ≤ containerCount
+
+-- what an allowed or modified call tells is what gained by the change that it made
+unfoldable pub GainTold : Type 0
+GainTold =
+    (s : State) (bytes : List ℕ) (x : Change) (g : ℕ)
+    → (outcome s bytes ≡ allows x g → g ≡ gainedFrom s (after s x))
+    × ((n c : ℕ) → outcome s bytes ≡ modifies n c x g → g ≡ gainedFrom s (after s x))
+
+-- a change by which nothing gains breaks no rule where none was broken
+unfoldable pub NoGainBreaksNone : Type 0
+NoGainBreaksNone = (s : State) (x : Change) → lowestBroken s ≡ none → gainedFrom s (after s x) ≡ 0 → lowestBroken (after s x) ≡ none
+
+-- the containers that a flow gives to, with the links before the call: the reach of the receiver, in map both those of both; of a fork the child
+unfoldable pub givenTo : Tables → Flow → ℕ
+givenTo t still = 0
+givenTo t (gift g u) = reach t u
+givenTo t (arrival u i) = reach t u
+givenTo t (exchange u v) = reach t v ∪ reach t u
+givenTo t (copy u v) = only v
+givenTo t (clear u) = 0
+
+-- what gained lies in a reach of what was given to
+unfoldable pub GainedInReach : Type 0
+GainedInReach = (s : State) (x : Change) (c : ℕ) → has (gainedFrom s (after s x)) c ≡ true → has (givenTo (s .tables) (x .flow)) c ≡ true
+
+-- a forked child gains if its parent holds anything, and nothing else does
+unfoldable pub ForkTells : Type 0
+ForkTells =
+    (steps : List Step) (k p a : ℕ) → p < processCount → a < processCount
+    → (let s = stateAt steps k in
+    let t = after s (change (s .tables) (record { kind = fork; process = p; a = a; b = 0; c = 0 })) in
+    used (s .tables) (containerOf a) ≡ false
+    → gainedFrom s t ≡ elim (eqb (itemsOf s (containerOf p)) 0) [ true ↦ 0 | false ↦ only (containerOf a) ])
 
 -- a refused or inhibited record leaves the state as it was
 unfoldable pub StoppedKeeps : Type 0
@@ -208,7 +254,7 @@ OneAnswerEach = (s : State) (log : List ℕ) → length (runLog s log .answers) 
 unfoldable pub AnswersInOrder : Type 0
 AnswersInOrder =
     (s : State) (log : List ℕ) (k : ℕ) → k < length (recordsOf log)
-    → getD (runLog s log .answers) k allow ≡ answer (answerAll s (take k (recordsOf log)) .state) (getD (recordsOf log) k [])
+    → getD (runLog s log .answers) k (allow 0) ≡ answer (answerAll s (take k (recordsOf log)) .state) (getD (recordsOf log) k [])
 
 -- A log is a row of records: each is as long as its header says, but for a last one whose header or value runs past the end.
 pub data RowOf : List ℕ → List (List ℕ) → Type 0 where

@@ -54,9 +54,9 @@ module _ {W : Type 0} (m : Machine W) where
   unfoldable pub contentsAfter : ℕ → W → State → Outcome → (ℕ → W) → ℕ → W
   contentsAfter n input s (refuses k) κ = κ
   contentsAfter n input s (loads k r) κ = κ
-  contentsAfter n input s (allows x) κ = changed n input (s .tables) x κ
+  contentsAfter n input s (allows x g) κ = changed n input (s .tables) x κ
   contentsAfter n input s (inhibits k) κ = κ
-  contentsAfter n input s (modifies k c x) κ = changed n input (s .tables) x κ
+  contentsAfter n input s (modifies k c x g) κ = changed n input (s .tables) x κ
 
   -- of the containers below n, those that link to v, with their contents
   unfoldable pub linkedTo : State → (ℕ → W) → ℕ → ℕ → List (Feeder W)

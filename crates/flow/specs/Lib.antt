@@ -6,6 +6,7 @@ pub mod Calls
 pub mod Rules
 pub mod Records
 pub mod Refusals
+pub mod Gained
 pub mod Verdicts
 pub mod Queries
 pub mod Contents

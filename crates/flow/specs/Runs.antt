@@ -1,5 +1,5 @@
 -- Document 01, Runs to check: the starred runs as one list, and examples that contents do move. 02, Paper 1: the holders after some logs;
--- Paper 2: which thing was missing; Paper 3: map both; Paper 4: mapped twice.
+-- Paper 2: which thing was missing; Paper 3: map both; Paper 4: mapped twice; Paper 5: how far a call spread.
 use Prim.Native.Nat.{ℕ, _+_}
 use mathlib.Core.Path.{_≡_}
 use mathlib.Core.Bool.{true, false}
@@ -24,11 +24,22 @@ pub record Check : Type 0 where
   pub answers : List Answer
   pub held : List Held
 
--- the log's answers and holdings as the definitions have them
-unfoldable pub outcomeOf : Check → Check
-outcomeOf x =
+-- an answer without how many containers gained: these runs say what passes; those of Paper 5, below, how far it spread
+unfoldable pub plain : Answer → Answer
+plain (refused n) = refused n
+plain (rule n) = rule n
+plain (allow n) = allow 0
+plain (inhibit n) = inhibit n
+plain (modify n c k) = modify n c 0
+
+-- the log's answers, each by f, and holdings as the definitions have them
+unfoldable pub outcomeBy : (Answer → Answer) → Check → Check
+outcomeBy f x =
     let r = runLog fresh (x .log) in
-    record { log = x .log; answers = r .answers; held = map (λ h. record { container = h .container; items = itemsOf (r .state) (h .container) }) (x .held) }
+    record { log = x .log; answers = map f (r .answers); held = map (λ h. record { container = h .container; items = itemsOf (r .state) (h .container) }) (x .held) }
+
+abbrev pub outcomeOf : Check → Check
+outcomeOf x = outcomeBy plain x
 
 -- ---- logs
 -- a call record
@@ -67,23 +78,23 @@ unfoldable pub thirtyTwo : List ℕ → List ℕ
 thirtyTwo l = let m = l ++ l ++ l ++ l in m ++ m ++ m ++ m ++ m ++ m ++ m ++ m
 
 unfoldable pub allowed : ℕ → List Answer
-allowed n = table n (λ k. allow)
+allowed n = table n (λ k. allow 0)
 
 unfoldable pub starred : List Check
 starred =
     -- A: an empty log gives no answers
     check [] [] []
     -- C: start 0 twice
-    ∷ check (call start 0 0 0 0 ++ call start 0 0 0 0) (allow ∷ refused 7 ∷ []) []
+    ∷ check (call start 0 0 0 0 ++ call start 0 0 0 0) (allow 0 ∷ refused 7 ∷ []) []
     -- D: start 15, start 16
-    ∷ check (call start 15 0 0 0 ++ call start 16 0 0 0) (allow ∷ refused 5 ∷ []) []
+    ∷ check (call start 15 0 0 0 ++ call start 16 0 0 0) (allow 0 ∷ refused 5 ∷ []) []
     -- E: create with container 23 or 64; with 24 or 63, free
     ∷ check
     (call start 0 0 0 0 ++ call create 0 0 0 23 ++ call create 0 0 0 64 ++ call create 0 0 0 24 ++ call create 0 1 1 63)
-    (allow ∷ refused 5 ∷ refused 5 ∷ allow ∷ allow ∷ [])
+    (allow 0 ∷ refused 5 ∷ refused 5 ∷ allow 0 ∷ allow 0 ∷ [])
     []
     -- F: pipe with descriptors 3 and 3, closed, with container 24 free, then with it in use
-    ∷ check (call start 0 0 0 0 ++ call pipe 0 3 3 24 ++ call create 0 0 0 24 ++ call pipe 0 3 3 24) (allow ∷ refused 9 ∷ allow ∷ refused 7 ∷ []) []
+    ∷ check (call start 0 0 0 0 ++ call pipe 0 3 3 24 ++ call create 0 0 0 24 ++ call pipe 0 3 3 24) (allow 0 ∷ refused 9 ∷ allow 0 ∷ refused 7 ∷ []) []
     -- G: 8, 24 and 9 hold 2
     ∷ check shared (allowed 9) (holding 8 4 ∷ holding 24 4 ∷ holding 9 4 ∷ [])
     -- H: truncate 24: it still holds 2. Process 0 unmaps 24 (02, Paper 4: b = 1) and truncates again: 24 is empty, 9 holds 2
@@ -101,33 +112,38 @@ starred =
     -- L: rule on items 1 and 2; a process holding 1 reads 2
     ∷ check
     ((0x12 ∷ 0 ∷ 4 ∷ 1 ∷ 2 ∷ 0 ∷ 0 ∷ []) ++ call start 0 0 0 0 ++ call label 0 8 1 0 ++ call create 0 0 0 24 ++ call label 0 24 2 0 ++ call read 0 0 0 0)
-    (rule 0 ∷ allow ∷ allow ∷ allow ∷ allow ∷ inhibit 0 ∷ [])
+    (rule 0 ∷ allow 0 ∷ allow 0 ∷ allow 0 ∷ allow 0 ∷ inhibit 0 ∷ [])
     []
     -- M: a divert whose substitute 24 isn't in use
     ∷ check
     (setRule 0x11 1 0 0 0 2 1 24 ++ call start 0 0 0 0 ++ call label 0 8 1 0 ++ call device 0 0 1 0 ++ call write 0 0 0 0)
-    (rule 0 ∷ allow ∷ allow ∷ allow ∷ inhibit 0 ∷ [])
+    (rule 0 ∷ allow 0 ∷ allow 0 ∷ allow 0 ∷ inhibit 0 ∷ [])
     []
     -- N: a tag 13 hex rule, action 0, allows item 1 only in 24 and 8; process 0 holds it and forks 1
-    ∷ check (setRule 0x13 1 1 0 1 0 0 0 ++ call start 0 0 0 0 ++ call label 0 8 1 0 ++ call fork 0 1 0 0) (rule 0 ∷ allow ∷ allow ∷ inhibit 0 ∷ []) []
+    ∷ check (setRule 0x13 1 1 0 1 0 0 0 ++ call start 0 0 0 0 ++ call label 0 8 1 0 ++ call fork 0 1 0 0) (rule 0 ∷ allow 0 ∷ allow 0 ∷ inhibit 0 ∷ []) []
     ∷ []
 
 -- each has its stated outcome; and J changes nothing
 unfoldable pub Starred : Type 0
 Starred = (map outcomeOf starred ≡ starred) × (runLog fresh renamed .state ≡ runLog fresh filed .state)
 
+-- run B: its last record is cut short
+unfoldable pub runB : List ℕ
+runB =
+    call start 0 0 0 0 ++ call create 0 5 0 24 ++ call label 0 24 1 0 ++ setRule 0x11 1 0 0 0 2 1 3 ++ call device 0 1 1 0 ++ call read 0 0 0 0 ++ call write 0 1 0 0 ++ call write 0 2 0 0 ++ 0x10 ∷ 0 ∷ []
+
 -- ---- further checks: run B's answers, and the rows of the table of refusals that no starred run meets
 unfoldable pub further : List Check
 further =
     -- B (02, Paper 2: its last line but one is 14)
     check
-    (call start 0 0 0 0 ++ call create 0 5 0 24 ++ call label 0 24 1 0 ++ setRule 0x11 1 0 0 0 2 1 3 ++ call device 0 1 1 0 ++ call read 0 0 0 0 ++ call write 0 1 0 0 ++ call write 0 2 0 0 ++ 0x10 ∷ 0 ∷ [])
-    (allowed 3 ++ rule 0 ∷ allow ∷ allow ∷ modify 0 3 ∷ refused 14 ∷ refused 1 ∷ [])
+    runB
+    (allowed 3 ++ rule 0 ∷ allow 0 ∷ allow 0 ∷ modify 0 3 0 ∷ refused 14 ∷ refused 1 ∷ [])
     (holding 3 2 ∷ holding 1 0 ∷ [])
     -- the lowest broken rule is number 1, and it inhibits although number 2 would divert
     ∷ check
     (spare ++ setRule 0x11 1 0 0 0 2 0 0 ++ setRule 0x11 1 0 0 0 2 1 3 ++ call start 0 0 0 0 ++ call label 0 8 1 0 ++ call device 0 0 1 0 ++ call write 0 0 0 0)
-    (rule 0 ∷ rule 1 ∷ rule 2 ∷ allow ∷ allow ∷ allow ∷ inhibit 1 ∷ [])
+    (rule 0 ∷ rule 1 ∷ rule 2 ∷ allow 0 ∷ allow 0 ∷ allow 0 ∷ inhibit 1 ∷ [])
     []
     -- 1 before 2 and 3: the value runs past the end; 2 before 3; 3 before 4
     ∷ check (0x20 ∷ 0 ∷ 1 ∷ []) (refused 1 ∷ []) []
@@ -142,12 +158,12 @@ further =
     -- 6, 7 before 15, 15, 16, 8, 9 of a rule, 10
     ∷ check
     (call read 0 0 0 0 ++ call start 0 0 0 0 ++ call device 0 0 1 0 ++ call openName 0 9 0 0 ++ call openName 0 9 1 0 ++ call unmap 0 24 0 0 ++ call label 0 24 0 0 ++ 0x12 ∷ 0 ∷ 4 ∷ 3 ∷ 3 ∷ 0 ∷ 0 ∷ [] ++ call truncate 0 0 0 0)
-    (refused 6 ∷ allow ∷ allow ∷ refused 7 ∷ refused 15 ∷ refused 16 ∷ refused 8 ∷ refused 9 ∷ refused 10 ∷ [])
+    (refused 6 ∷ allow 0 ∷ allow 0 ∷ refused 7 ∷ refused 15 ∷ refused 16 ∷ refused 8 ∷ refused 9 ∷ refused 10 ∷ [])
     []
     -- a dead process leaves no descriptors and no links: started again it has none
     ∷ check
     (call start 0 0 0 0 ++ call create 0 0 0 24 ++ call mapBoth 0 0 0 0 ++ call exit 0 0 0 0 ++ call start 0 0 0 0 ++ call read 0 0 0 0 ++ call unmap 0 24 1 0 ++ call label 0 24 1 0)
-    (allowed 5 ++ refused 14 ∷ refused 16 ∷ allow ∷ [])
+    (allowed 5 ++ refused 14 ∷ refused 16 ∷ allow 0 ∷ [])
     (holding 24 2 ∷ holding 8 0 ∷ [])
     -- a child has the parent's descriptors, and its links in each direction
     ∷ check
@@ -226,12 +242,12 @@ lacking =
     -- name onto a bound one is 7, onto itself 15
     ∷ check
     (call start 0 0 0 0 ++ call device 0 1 2 0 ++ call dup 0 3 1 0 ++ call dup 0 3 4 0 ++ call dup 0 3 3 0 ++ call pipe 0 3 3 24 ++ call pipe 0 1 1 24 ++ call truncate 0 3 0 0 ++ call truncate 0 1 0 0 ++ call create 0 5 0 24 ++ call link 0 3 5 0 ++ call link 0 3 3 0)
-    (allow ∷ allow ∷ refused 7 ∷ refused 14 ∷ refused 14 ∷ refused 9 ∷ refused 7 ∷ refused 14 ∷ refused 10 ∷ allow ∷ refused 7 ∷ refused 15 ∷ [])
+    (allow 0 ∷ allow 0 ∷ refused 7 ∷ refused 14 ∷ refused 14 ∷ refused 9 ∷ refused 7 ∷ refused 14 ∷ refused 10 ∷ allow 0 ∷ refused 7 ∷ refused 15 ∷ [])
     []
     -- a file whose name, descriptor and links end one by one
     ∷ check
     (call start 0 0 0 0 ++ call create 0 5 0 24 ++ call mapBoth 0 0 0 0 ++ call unlink 0 5 0 0 ++ call openName 0 5 1 0 ++ call close 0 0 0 0 ++ call read 0 0 0 0 ++ call label 0 24 1 0 ++ call unmap 0 24 1 0 ++ call unmap 0 24 1 0 ++ call label 0 24 1 0)
-    (allowed 4 ++ refused 15 ∷ allow ∷ refused 14 ∷ allow ∷ allow ∷ refused 16 ∷ refused 8 ∷ [])
+    (allowed 4 ++ refused 15 ∷ allow 0 ∷ refused 14 ∷ allow 0 ∷ allow 0 ∷ refused 16 ∷ refused 8 ∷ [])
     (holding 8 2 ∷ holding 24 0 ∷ [])
     ∷ []
 
@@ -256,11 +272,11 @@ mappingBoth =
     -- there is nothing to unmap
     ∷ check
     (setRule 0x11 2 0 0 2 0 0 0 ++ twoSides ++ call mapBoth 0 0 0 0 ++ call label 0 24 4 0 ++ call unmap 0 24 1 0)
-    (rule 0 ∷ allowed 9 ++ inhibit 0 ∷ allow ∷ refused 16 ∷ [])
+    (rule 0 ∷ allowed 9 ++ inhibit 0 ∷ allow 0 ∷ refused 16 ∷ [])
     (holding 8 4 ∷ holding 25 4 ∷ holding 24 18 ∷ holding 9 18 ∷ [])
     ∷ check
     (setRule 0x11 1 2 0 0 0 0 0 ++ twoSides ++ call mapBoth 0 0 0 0 ++ call label 0 24 4 0 ++ call unmap 0 24 1 0)
-    (rule 0 ∷ allowed 9 ++ inhibit 0 ∷ allow ∷ refused 16 ∷ [])
+    (rule 0 ∷ allowed 9 ++ inhibit 0 ∷ allow 0 ∷ refused 16 ∷ [])
     (holding 8 4 ∷ holding 25 4 ∷ holding 24 18 ∷ holding 9 18 ∷ [])
     ∷ []
 
@@ -287,7 +303,7 @@ mappedTwice =
     -- two-way mapping is left to unmap, and the one for reading is
     ∷ check
     (twoSorts ++ call unmap 0 24 1 0 ++ call label 0 8 1 0 ++ call label 0 24 2 0 ++ call unmap 0 24 1 0 ++ call unmap 0 24 0 0 ++ call label 0 24 3 0)
-    (allowed 7 ++ refused 16 ∷ allow ∷ allow ∷ [])
+    (allowed 7 ++ refused 16 ∷ allow 0 ∷ allow 0 ∷ [])
     (holding 8 6 ∷ holding 24 12 ∷ [])
     -- the unmap for reading leaves both links, and no further mapping for reading: a two-way one is none
     ∷ check
@@ -329,7 +345,53 @@ filling =
 unfoldable pub Filled : Type 0
 Filled =
     answerAll fresh filling .answers
-    ≡ allow ∷ allow ∷ replicate 255 allow ++ (refused 17 ∷ allow ∷ refused 17 ∷ refused 17 ∷ allow ∷ allow ∷ refused 17 ∷ [])
+    ≡ allow 0 ∷ allow 0 ∷ replicate 255 (allow 0) ++ (refused 17 ∷ allow 0 ∷ refused 17 ∷ refused 17 ∷ allow 0 ∷ allow 0 ∷ refused 17 ∷ [])
+
+-- ---- 02, Paper 5: how far a call spread
+-- processes 0 and 1 map 24 for reading
+unfoldable pub heard : List ℕ
+heard = call start 0 0 0 0 ++ call start 1 0 0 0 ++ call create 0 0 0 24 ++ call openName 1 0 0 0 ++ call mapRead 0 0 0 0 ++ call mapRead 1 0 0 0
+
+-- allowed calls, by how many containers gained in each
+unfoldable pub gaining : List ℕ → List Answer
+gaining l = map allow l
+
+unfoldable pub spreading : List Check
+spreading =
+    -- B
+    check
+    runB
+    (gaining (0 ∷ 0 ∷ 1 ∷ []) ++ rule 0 ∷ allow 0 ∷ allow 1 ∷ modify 0 3 1 ∷ refused 14 ∷ refused 1 ∷ [])
+    (holding 3 2 ∷ holding 1 0 ∷ [])
+    -- a label of 24: it gains, and both processes do. The same again, and a read of what is held already: none
+    ∷ check
+    (heard ++ call label 0 24 1 0 ++ call label 0 24 1 0 ++ call read 0 0 0 0)
+    (gaining (0 ∷ 0 ∷ 0 ∷ 0 ∷ 0 ∷ 0 ∷ 3 ∷ 0 ∷ 0 ∷ []))
+    (holding 8 2 ∷ holding 9 2 ∷ holding 24 2 ∷ [])
+    -- containers count, not items: process 0 holds items 1 and 2 and writes 24, which gains both, as does process 1
+    ∷ check
+    (heard ++ call label 0 8 1 0 ++ call label 0 8 2 0 ++ call write 0 0 0 0)
+    (gaining (0 ∷ 0 ∷ 0 ∷ 0 ∷ 0 ∷ 0 ∷ 1 ∷ 1 ∷ 2 ∷ []))
+    (holding 8 6 ∷ holding 9 6 ∷ holding 24 6 ∷ [])
+    -- a forked child gains if its parent holds anything; emptying is no gain
+    ∷ check
+    (call start 0 0 0 0 ++ call fork 0 1 0 0 ++ call label 0 8 1 0 ++ call label 0 8 2 0 ++ call fork 0 2 0 0 ++ call exit 2 0 0 0 ++ call exit 0 0 0 0)
+    (gaining (0 ∷ 0 ∷ 1 ∷ 1 ∷ 1 ∷ 0 ∷ 0 ∷ []))
+    (holding 8 0 ∷ holding 9 0 ∷ holding 10 0 ∷ [])
+    ∷ check
+    (filed ++ call truncate 0 0 0 0 ++ call label 0 24 1 0)
+    (gaining (0 ∷ 0 ∷ 1 ∷ 0 ∷ 1 ∷ []))
+    (holding 24 2 ∷ [])
+    -- a diverted write tells what gained by it, in the reach of the substitute 24 and not in that of the device written: 24 and process 1, and
+    -- none the second time. Where it is inhibited no number is told
+    ∷ check
+    (heard ++ call label 0 8 1 0 ++ call device 0 1 1 0 ++ setRule 0x11 1 0 0 0 2 1 24 ++ call unmap 0 24 0 0 ++ call write 0 1 0 0 ++ call write 0 1 0 0 ++ setRule 0x11 1 0 0 0 4 0 0 ++ call device 0 2 2 0 ++ call write 0 2 0 0)
+    (gaining (0 ∷ 0 ∷ 0 ∷ 0 ∷ 0 ∷ 0 ∷ 1 ∷ 0 ∷ []) ++ rule 0 ∷ allow 0 ∷ modify 0 24 2 ∷ modify 0 24 0 ∷ rule 1 ∷ allow 0 ∷ inhibit 1 ∷ [])
+    (holding 1 0 ∷ holding 24 2 ∷ holding 9 2 ∷ [])
+    ∷ []
+
+unfoldable pub Spreading : Type 0
+Spreading = map (outcomeBy (λ a. a)) spreading ≡ spreading
 
 -- ---- contents do move
 -- the sum of the contents of what links to a container

@@ -1,10 +1,12 @@
--- Document 01, What a record gets: verdicts, the answer to a record, the state after it, and a whole log.
+-- Document 01, What a record gets: verdicts, the answer to a record, the state after it, and a whole log. 02, Paper 5: allow and modify tell
+-- which containers gained, and the answer how many.
 use Prim.Native.Nat.{ℕ}
 use mathlib.Core.Bool.{Bool, true, false, _&&_}
 use mathlib.Core.List.{List, [], _∷_, _++_}
 use mathlib.Core.Option.{Option, none, some}
 use lib.Dec.{eqb}
 use lib.ListN.{length}
+use Rattle.sets.specs.Sets.{members}
 use Rattle.flow.specs.Lists.{firstThat, isNone}
 use Rattle.flow.specs.Box.{containerOf, Rule, State}
 use Rattle.flow.specs.Links.{used}
@@ -12,14 +14,16 @@ use Rattle.flow.specs.Calls.{write, Call, isKind, gift, Change, change, 
 use Rattle.flow.specs.Rules.{Numbered, lowestBroken}
 use Rattle.flow.specs.Records.{Reading, unreadable, aCall, aRule, reading, recordsOf}
 use Rattle.flow.specs.Refusals.{callTests, ruleTests}
+use Rattle.flow.specs.Gained.{gained}
 
--- what a record gets, with the change that it makes
+-- what a record gets, with the change that it makes; that of an allowed or modified call also has the set of the containers that gained (02,
+-- Paper 5)
 pub data Outcome : Type 0 where
   refuses : ℕ → Outcome
   loads : ℕ → Rule → Outcome  -- the rule's number
-  allows : Change → Outcome
+  allows : Change → ℕ → Outcome
   inhibits : ℕ → Outcome  -- the broken rule
-  modifies : ℕ → ℕ → Change → Outcome  -- the broken rule, the substitute
+  modifies : ℕ → ℕ → Change → ℕ → Outcome  -- the broken rule, the substitute
 
 -- a write to the substitute instead
 unfoldable pub diversion : State → Call → Rule → Change
@@ -32,21 +36,28 @@ mayDivert s q r = eqb (r .action) 1 && isKind write q && used (s .tables) (r .su
 unfoldable pub breaksNone : State → Bool
 breaksNone s = isNone (lowestBroken s)
 
+-- the containers that gained from the state s to the state t
+abbrev pub gainedFrom : State → State → ℕ
+gainedFrom s t = gained (s .items) (t .items)
+
 -- the outcome where the lowest broken rule is r, number n
 unfoldable pub stopped : State → Call → ℕ → Rule → Outcome
 stopped s q n r =
     elim (mayDivert s q r) [
-      | true ↦ (let x = diversion s q r in elim (breaksNone (after s x)) [ true ↦ modifies n (r .substitute) x | false ↦ inhibits n ])
+      | true ↦ (let x = diversion s q r in let t = after s x in elim (breaksNone t) [ true ↦ modifies n (r .substitute) x (gainedFrom s t) | false ↦ inhibits n ])
       | false ↦ inhibits n
     ]
 
--- a call is worked out first; if no rule is broken after it: allow
-unfoldable pub verdictBy : State → Call → Option Numbered → Outcome
-verdictBy s q none = allows (change (s .tables) q)
-verdictBy s q (some x) = stopped s q (x .number) (x .rule)
+-- a call is worked out first, to the state t; if no rule is broken in it: allow
+unfoldable pub verdictBy : State → Call → State → Option Numbered → Outcome
+verdictBy s q t none = allows (change (s .tables) q) (gainedFrom s t)
+verdictBy s q t (some x) = stopped s q (x .number) (x .rule)
+
+unfoldable pub verdictAt : State → Call → State → Outcome
+verdictAt s q t = verdictBy s q t (lowestBroken t)
 
 unfoldable pub verdict : State → Call → Outcome
-verdict s q = verdictBy s q (lowestBroken (after s (change (s .tables) q)))
+verdict s q = verdictAt s q (after s (change (s .tables) q))
 
 -- ---- what a record gets, by what was read
 unfoldable pub outcomeOfCall : State → Option Call → Option ℕ → Outcome
@@ -67,20 +78,28 @@ outcomeOf s (aRule r) = outcomeOfRule s r (firstThat (ruleTests s r))
 unfoldable pub outcome : State → List ℕ → Outcome
 outcome s bytes = outcomeOf s (reading bytes)
 
--- ---- the answer
+-- the containers that gained by what a record gets; but for an allowed or modified call there are none
+unfoldable pub gainedBy : Outcome → ℕ
+gainedBy (refuses n) = 0
+gainedBy (loads n r) = 0
+gainedBy (allows x g) = g
+gainedBy (inhibits n) = 0
+gainedBy (modifies n c x g) = g
+
+-- ---- the answer; allow and modify end with how many containers gained
 pub data Answer : Type 0 where
   refused : ℕ → Answer
   rule : ℕ → Answer
-  allow : Answer
+  allow : ℕ → Answer
   inhibit : ℕ → Answer
-  modify : ℕ → ℕ → Answer
+  modify : ℕ → ℕ → ℕ → Answer
 
 unfoldable pub answerOf : Outcome → Answer
 answerOf (refuses n) = refused n
 answerOf (loads n r) = rule n
-answerOf (allows x) = allow
+answerOf (allows x g) = allow (length (members g))
 answerOf (inhibits n) = inhibit n
-answerOf (modifies n c x) = modify n c
+answerOf (modifies n c x g) = modify n c (length (members g))
 
 unfoldable pub answer : State → List ℕ → Answer
 answer s bytes = answerOf (outcome s bytes)
@@ -92,9 +111,9 @@ withRule s r = record { tables = s .tables; items = s .items; rules = s .rules +
 unfoldable pub stateAfter : State → Outcome → State
 stateAfter s (refuses n) = s
 stateAfter s (loads n r) = withRule s r
-stateAfter s (allows x) = after s x
+stateAfter s (allows x g) = after s x
 stateAfter s (inhibits n) = s
-stateAfter s (modifies n c x) = after s x
+stateAfter s (modifies n c x g) = after s x
 
 unfoldable pub next : State → List ℕ → State
 next s bytes = stateAfter s (outcome s bytes)

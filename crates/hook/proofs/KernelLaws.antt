@@ -16,7 +16,7 @@ use Rattle.decision.specs.declared.Answer.the-variants.{Allow}
 use Rattle.decision.specs.declared.Answered.{Answered}
 use Rattle.decision.specs.View.{view}
 use Rattle.decision.specs.Answers.{wordOf, Sound, AnswersRecord, AnswersCall}
-use Rattle.decision.specs.Logs.{codeOf, wordFrom, inBytes, CodesTell, roomFor, AnswersLogBy, AnswersLog}
+use Rattle.decision.specs.Logs.{codeOf, wordFrom, inBytes, CodesTell, roomFor, AnswersLogBy, AnswersLog, Coded}
 use Rattle.decision.specs.TwoRuns.{AnswersWithout}
 use Rattle.decision.specs.Chains.{CallIsRecord, callRecord, given, called, moves, Operation, event, run, short, stepsOf, operationAt, AnswersRun, AnswersOperation, OperationsOver, OperationChainExists, toldTo, toldBy}
 use Rattle.decision.specs.Telling.{AnswersInBytes, LogCodesTell}
@@ -25,7 +25,7 @@ use Rattle.decision.proofs.HookLaws.{call-is-record}
 use Rattle.decision.proofs.Telling.{answers-in-bytes, log-codes-tell}
 use Rattle.decision.proofs.Operations.{Done, answered-by, operation-done, AllDone, demand3-of-done}
 use Rattle.decision.proofs.OperationChains.{operation-chain-exists}
-use Rattle.hook.specs.Codes.{Coded, Given, AnswersLogGiven}
+use Rattle.hook.specs.Codes.{Given, AnswersLogGiven}
 use Rattle.hook.proofs.CodeLaws.{given-by}
 use Rattle.hook.specs.Kernels.{CodesTellAnswers, RunGiven, OperationGiven, KernelChain, KernelChainExists, GivenWithout, Demand3OfKernel}
 
@@ -92,9 +92,9 @@ unfolding OperationGiven AnswersOperation toldBy toldTo
 kernel-done (event (given bytes)) m n codes next g s = rw (record-hidden m next bytes n g s) (operation-done (event (given bytes)) m (g .answer) codes next (g .promised) s)
 kernel-done (event (called kind p d e f)) m n codes next g s =
     rw (call-hidden m next kind p d e f n g s) (operation-done (event (called kind p d e f)) m (g .answer) codes next (g .promised) s)
-kernel-done (event moves) m n codes next g s = operation-done (event moves) m Allow codes next g s
-kernel-done (run log) m n codes next g s = operation-done (run log) m Allow codes next (run-answers true (g .1) (room (g .1 .answers) (g .0))) s
-kernel-done (short log some) m n codes next g s = operation-done (short log some) m Allow codes next (run-answers false (g .1) (no-room (g .1 .answers) (g .0))) s
+kernel-done (event moves) m n codes next g s = operation-done (event moves) m (Allow 0) codes next g s
+kernel-done (run log) m n codes next g s = operation-done (run log) m (Allow 0) codes next (run-answers true (g .1) (room (g .1 .answers) (g .0))) s
+kernel-done (short log some) m n codes next g s = operation-done (short log some) m (Allow 0) codes next (run-answers false (g .1) (no-room (g .1 .answers) (g .0))) s
 
 chain-done : (os : List Operation) (x : ℕ → Monitor) (a : ℕ → ℕ) (codes : ℕ → List ℕ) → KernelChain os x a codes → AllDone os x (λ n. wordFrom (a n)) codes
 chain-done os x a codes c n s = kernel-done (operationAt os n) (x n) (a n) (codes n) (x (suc n)) (c .answers n) s

@@ -7,17 +7,8 @@ use Rattle.flow.specs.Queries.{Reply as Word, refuse, result, itemsQuery, holde
 use Rattle.tracker.specs.declared.queries.Reply.{Reply}
 use Rattle.tracker.specs.Replies.{replyOf}
 use Rattle.decision.specs.declared.Monitor.{Monitor}
-use Rattle.decision.specs.declared.Answer.{Answer}
-use Rattle.decision.specs.declared.Answered.{Answered}
 use Rattle.decision.specs.View.{view}
-use Rattle.decision.specs.Answers.{wordOf}
-use Rattle.decision.specs.Logs.{codeOf, AnswersLog}
-
--- n is the code of an answer that, with the monitor m, is what P promises
-pub record Coded (P : Answered → Type 0) (n : ℕ) (m : Monitor) : Type 0 where
-  pub answer : Answer
-  pub code : n ≡ codeOf (wordOf answer)
-  pub promised : P (record { answer = answer; monitor = m })
+use Rattle.decision.specs.Logs.{AnswersLog}
 
 -- a query's answer in two numbers: 0 and the result, or the number of the refusal, and then the lent number is as before
 unfoldable pub Given : Word → ℕ → ℕ → ℕ → Type 0

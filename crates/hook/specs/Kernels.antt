@@ -15,9 +15,9 @@ use Rattle.flow.specs.TwoRuns.{Agree}
 use Rattle.decision.specs.declared.Monitor.{Monitor}
 use Rattle.decision.specs.View.{view}
 use Rattle.decision.specs.Answers.{Sound, IsFresh, AnswersRecord, AnswersCall}
-use Rattle.decision.specs.Logs.{codeOf, wordFrom, codesOf}
+use Rattle.decision.specs.Logs.{codeOf, wordFrom, codesOf, Coded}
 use Rattle.decision.specs.Chains.{callRecord, Holdable, ofBytes, given, called, moves, Operation, event, run, short, allSteps, moment, operationAt, told, RulesToldForbid}
-use Rattle.hook.specs.Codes.{Coded, AnswersLogGiven, ItemsGiven}
+use Rattle.hook.specs.Codes.{AnswersLogGiven, ItemsGiven}
 
 -- ---- the number n is the code of what the outcome answers, and tells it
 pub record Tells (n : ℕ) (o : Outcome) : Type 0 where

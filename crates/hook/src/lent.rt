@@ -2,11 +2,11 @@
 ghost use Rattle.tracker.specs.Replies.{replyOf};
 ghost use Rattle.decision.specs.View.{monitorBefore, monitorAfter};
 ghost use Rattle.decision.specs.Answers.{AnswersRecord, AnswersCall};
-ghost use Rattle.hook.specs.Codes.{Coded, Given, AnswersLogGiven, ItemsGiven, HoldersGiven};
-use decision::inplace::answer_in;
-use decision::inplace::call_in;
+ghost use Rattle.decision.specs.Logs.{Coded};
+ghost use Rattle.hook.specs.Codes.{Given, AnswersLogGiven, ItemsGiven, HoldersGiven};
+use decision::inplace::answer_code;
+use decision::inplace::call_code;
 use decision::inplace::run_in;
-use decision::logs::code;
 use tracker::Call;
 use tracker::queries::Reply;
 use tracker::queries::holders_in;
@@ -35,8 +35,7 @@ pub fn call_lent(
 ) -> u32
     ensures { λ r. ⌜ Coded (AnswersCall (monitorBefore words descriptors names sets fields) (q .kind) (q .process) (q .a) (q .b) (q .c)) r (monitorAfter words descriptors names sets fields) ⌝ }
 {
-    let answer = call_in(words, descriptors, names, sets, fields, q);
-    code(answer)
+    call_code(words, descriptors, names, sets, fields, q)
 }
 
 pub fn answer_lent(
@@ -49,8 +48,7 @@ pub fn answer_lent(
 ) -> u32
     ensures { λ r. ⌜ Coded (AnswersRecord (monitorBefore words descriptors names sets fields) (now (bytes .entry))) r (monitorAfter words descriptors names sets fields) ⌝ }
 {
-    let answer = answer_in(words, descriptors, names, sets, fields, bytes);
-    code(answer)
+    answer_code(words, descriptors, names, sets, fields, bytes)
 }
 
 pub fn run_lent(

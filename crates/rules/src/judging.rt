@@ -188,12 +188,20 @@ pub fn judge(words: &[u64; 353], plan: Plan, sets: &[u64; 32], fields: &[u8; 129
     k
 }
 
-// The same. Without rules there is nothing to go through, and the compiler leads the call past it.
+// The same. Without rules there is nothing to go through, and the compiler leads the call past it; since `judge` is lent a copy, it keeps the
+// plan itself out of memory.
 pub fn first_anew(words: &[u64; 353], plan: Plan, sets: &[u64; 32], fields: &[u8; 129]) -> u8
     ensures { λ r. ⌜ Judged (itemsIn (now (words .entry))) plan (now (sets .entry)) (now (fields .entry)) r ⌝ }
 {
     if count(fields) == 0 {
         return 0;
     }
-    judge(words, plan, sets, fields)
+    let copy = Plan {
+        empty: plan.empty,
+        given: plan.given,
+        to: plan.to,
+        given2: plan.given2,
+        to2: plan.to2,
+    };
+    judge(words, copy, sets, fields)
 }

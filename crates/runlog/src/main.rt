@@ -47,13 +47,34 @@ fn put_line(out: &mut [u8], at: usize, word: &[u8], n: u32) -> usize {
     put(out, next, b'\n')
 }
 
+// Puts a number from 10 on, and ends the line: most often it has two digits.
+fn put_tens(out: &mut [u8], at: usize, n: u32) -> usize {
+    if 99 < n {
+        return put_line(out, at, b"", n);
+    }
+    let mut next = put(out, at, b'0' + (n / 10) as u8);
+    next = put(out, next, b'0' + (n % 10) as u8);
+    put(out, next, b'\n')
+}
+
+// Puts the line of an allowed call at `at`: its number is most often one digit.
+fn put_allow(out: &mut [u8], at: usize, gained: u32) -> usize {
+    let mut next = put_text(out, at, b"allow ");
+    if 9 < gained {
+        return put_tens(out, next, gained);
+    }
+    next = put(out, next, b'0' + gained as u8);
+    put(out, next, b'\n')
+}
+
 // Puts the line of an answer at `at`.
 fn put_answer(out: &mut [u8], at: usize, code: u32) -> usize {
     let word = code % 256;
     let first = code / 256 % 256;
     let second = code / 65536 % 256;
-    if word == 0 {
-        return put_text(out, at, b"allow\n");
+    let gained = code / 16777216;
+    if code % 16777216 == 0 {
+        return put_allow(out, at, gained);
     }
     if word == 1 {
         return put_line(out, at, b"inhibit ", first);
@@ -66,7 +87,9 @@ fn put_answer(out: &mut [u8], at: usize, code: u32) -> usize {
     }
     let mut next = put_text(out, at, b"modify ");
     next = put_number(out, next, first as u64);
-    put_line(out, next, b" ", second)
+    next = put(out, next, b' ');
+    next = put_number(out, next, second as u64);
+    put_line(out, next, b" ", gained)
 }
 
 // Writes a text, and answers whether all of it was written. If not it says so: a program has no exit status to tell it by.

@@ -9,6 +9,7 @@ pub mod Use
 pub mod Spreading
 pub mod Searching
 pub mod Worklist
+pub mod Gains
 pub mod Words
 pub mod Files
 pub mod Packing

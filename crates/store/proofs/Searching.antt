@@ -1,8 +1,8 @@
 -- The search for the reach: each process is gone through once.
-use Prim.Native.Nat.{ℕ, _/_, _%_, _^_, _<_}
+use Prim.Native.Nat.{ℕ, _-_, _/_, _%_, _^_, _≤_, _<_}
 use native.Mathlib.Omega.{arith}
 use native.Mathlib.Nat.{mod-eq-of-lt}
-use native.Mathlib.Decide.{ℕ-discrete}
+use native.Mathlib.Decide.{ℕ-discrete, decLe}
 use mathlib.Core.Path.{_≡_, refl, sym, ap, _∙_}
 use mathlib.Core.Bool.{Bool, true, false, _&&_}
 use mathlib.Core.List.{List}
@@ -11,14 +11,16 @@ use lib.ListN.{getD, length}
 use lib.Pow.{shr-shr}
 use borrow.Author.Tests.{lt-ltb, eqb-true, eq-eqb}
 use Rattle.sets.specs.Sets.{has, only, bit, thoseFrom, those, without, _∪_, _∩_, count, lowest, unionOf}
-use Rattle.sets.proofs.Members.{union-has, inter-has, inter-lt, only-has, none-has, those-has, without-le, without-part, without-other, union-lt, only-lt, has-below, count-less, member, turn-below}
+use Rattle.sets.proofs.Members.{union-has, inter-has, inter-lt, inter-le, only-has, none-has, those-has, without-le, without-part, without-other, union-lt, only-lt, has-below, count-less, member, turn-below}
 use Rattle.sets.proofs.Unions.{none-union, unionOf-part}
 use Rattle.flow.specs.Box.{containerOf, Tables, feedersOf, feeds}
 use Rattle.flow.specs.Links.{linked, Reaches, here, onward, reach}
 use Rattle.flow.proofs.Bools.{or-elim, or-l, or-r, and-l, and-r, and-i, by, no-both, or-false-l, or-false-r, or-false-i, and-false-l}
 use Rattle.flow.proofs.Reach.{link-cases, link-in, link-out, is-reach}
 use Rattle.flow.proofs.Meets.{meets-of, meets-at}
-use Rattle.store.specs.Search.{fedFrom, comesNext, Finds}
+use Rattle.store.specs.Maps.{part}
+use Rattle.store.specs.Search.{fedFrom, comesNext, lowHalf, highHalf, Within, Finds}
+use Rattle.store.proofs.Parts.{part-at, part-length}
 
 -- ---- members
 in-l : (x y i : ℕ) → has x i ≡ true → has (x ∪ y) i ≡ true
@@ -74,6 +76,86 @@ module _ {f : ℕ → Bool} {left todo : ℕ} (s : Seek f left todo) (more : tod
       go q m n (yes d) = rw d e
       go q m n (no d) = by (has todo q) (λ k. no-both (without-other todo p q (omega (arith, has-below 16 todo q (s .small) k)) d ∙ k) n) (λ k. s .rest q m k)
 
+-- ---- half by half
+-- nothing in the set x feeds a process of the set left
+pub calm-none : (rows : List ℕ) (x left all : ℕ) → Within rows left all → x ∩ all ≡ 0 → Finds (fedFrom rows x) left 64
+calm-none rows x left all w calm = record { found = λ d. absurd (d refl); none = λ q p m. by (fedFrom rows x p) (λ k. meeting p m (meets-at x _ k)) (λ k. k) }
+  where
+    meeting : (p : ℕ) → has left p ≡ true → (i : ℕ) × (has x i ≡ true) × (has (getD rows p 0) i ≡ true) → fedFrom rows x p ≡ false
+    meeting p m z = no-common x all (z .0) calm (z .1) (w p m (z .0) (z .2))
+
+-- all processes
+sixteen : 65535 ≡ those (λ p. ltb p 16)
+unfolding those thoseFrom bit
+sixteen = refl
+
+pub sixteen-has : (p : ℕ) → p < 16 → has 65535 p ≡ true
+sixteen-has p h = ap (λ (x : ℕ). has x p) sixteen ∙ those-has (λ p. ltb p 16) p (omega arith) ∙ lt-ltb p 16 h
+
+eight : lowHalf ≡ those (λ p. ltb p 8)
+unfolding those thoseFrom bit
+eight = refl
+
+low-has : (p : ℕ) → p < 8 → has lowHalf p ≡ true
+low-has p h = ap (λ (x : ℕ). has x p) eight ∙ those-has (λ p. ltb p 8) p (omega arith) ∙ lt-ltb p 8 h
+
+both-halves : lowHalf ∪ highHalf ≡ 65535
+unfolding _∪_
+both-halves = refl
+
+no-half : lowHalf ∩ highHalf ≡ 0
+unfolding _∩_
+no-half = refl
+
+in-half : (p : ℕ) {P : Type 0} → p < 16 → (has lowHalf p ≡ true → P) → (has highHalf p ≡ true → P) → P
+in-half p h f g = in-cases lowHalf highHalf p f g (ap (λ (x : ℕ). has x p) both-halves ∙ sixteen-has p h)
+
+-- part of a set
+within-part : (rows : List ℕ) (left half all : ℕ) → Within rows half all → Within rows (left ∩ half) all
+within-part rows left half all w p m = w p (and-r (has left p) _ (sym (inter-has left half p) ∙ m))
+
+pub half-none : (rows : List ℕ) (x left half all : ℕ) → Within rows half all → x ∩ all ≡ 0 → Finds (fedFrom rows x) (left ∩ half) 64
+half-none rows x left half all w calm = calm-none rows x (left ∩ half) all (within-part rows left half all w) calm
+
+pub half-lt : (left half : ℕ) → left < 65536 → (left ∩ half) < 65536
+half-lt left half h = omega (arith, inter-le left half)
+
+module _ (rows : List ℕ) (left : ℕ) (small : left < 65536) where
+  pub within-both : (low high : ℕ) → Within rows lowHalf low → Within rows highHalf high → Within rows left (low ∪ high)
+  within-both low high l r p m i k = in-half p (has-below 16 left p small m) (λ h. in-l low high i (l p h i k)) (λ h. in-r low high i (r p h i k))
+
+  in-inter : (half p : ℕ) → has left p ≡ true → has half p ≡ true → has (left ∩ half) p ≡ true
+  in-inter half p m h = inter-has left half p ∙ and-i (has left p) _ m h
+
+  -- one of the low half, or else what is found in the high half
+  pub found-low : (x p : ℕ) → (p ≡ 64 → ⊥) → Finds (fedFrom rows x) (left ∩ lowHalf) p → Finds (fedFrom rows x) left p
+  found-low x p d w =
+      record { found = λ z. let f = w .found z in (and-l _ (has lowHalf p) (sym (inter-has left lowHalf p) ∙ f .0), f .1); none = λ z. absurd (d z) }
+
+  pub found-high : (x q p : ℕ) → q ≡ 64 → Finds (fedFrom rows x) (left ∩ lowHalf) q → Finds (fedFrom rows x) (left ∩ highHalf) p → Finds (fedFrom rows x) left p
+  found-high x q p e l r =
+      record {
+        found = λ z. let f = r .found z in (and-l _ (has highHalf p) (sym (inter-has left highHalf p) ∙ f .0), f .1);
+        none = λ z k m. in-half k (has-below 16 left k small m) (λ h. l .none e k (in-inter lowHalf k m h)) (λ h. r .none z k (in-inter highHalf k m h));
+      }
+
+-- what the rows of a half map, as they lie in the words
+pub within-low : (w : List ℕ) (all : ℕ) → length w ≡ 353 → all ≡ unionOf (part 65 8 w) → Within (part 65 16 w) lowHalf all
+within-low w all long e p m i k =
+    let h : p < 8 = has-below 8 lowHalf p (omega arith) m in
+    rw e (unionOf-part (part 65 8 w) p i (rw (part-length 65 8 w (omega arith)) h) (ap (λ (y : ℕ). has y i) (sym (part-at 65 8 w p h) ∙ part-at 65 16 w p (omega arith)) ∙ k))
+
+pub within-high : (w : List ℕ) (all : ℕ) → length w ≡ 353 → all ≡ unionOf (part 73 8 w) → Within (part 65 16 w) highHalf all
+within-high w all long e p m i k =
+    let h : p < 16 = has-below 16 highHalf p (omega arith) m in
+    go (decLe 8 p) h
+  where
+    go : Dec (8 ≤ p) → p < 16 → has all i ≡ true
+    go (yes l) h =
+        let j : p - 8 < 8 = omega arith in
+        rw e (unionOf-part (part 73 8 w) (p - 8) i (rw (part-length 73 8 w (omega arith)) j) (ap (λ (y : ℕ). has y i) (sym (part-at 73 8 w (p - 8) j) ∙ ap (λ (z : ℕ). getD w z 0) (omega arith) ∙ part-at 65 16 w p h) ∙ k))
+    go (no l) h = no-common lowHalf highHalf p no-half (low-has p (omega arith)) m
+
 -- ---- the process that comes next
 pub shifted : (x p : ℕ) → has (x / 2 ^ 8) p ≡ has x (containerOf p)
 unfolding has
@@ -107,16 +189,6 @@ module _ (rows : List ℕ) (x left : ℕ) where
     not-in : (p : ℕ) → has left p ≡ true → has x (containerOf p) ≡ false
     not-in p m = and-false-l _ (has left p) m (sym (own-has p) ∙ ap (λ (z : ℕ). has z p) e ∙ none-has p)
 
-    -- none is, and nothing in the set feeds a process
-    pub next-none : length rows ≡ 16 → left < 65536 → x ∩ unionOf rows ≡ 0 → Finds (comesNext rows x) left 64
-    next-none long small calm =
-        record { found = λ d. absurd (d refl); none = λ q p m. or-false-i _ _ (not-in p m) (by (fedFrom rows x p) (λ k. meeting p m (meets-at x _ k)) (λ k. k)) }
-      where
-        meeting : (p : ℕ) → has left p ≡ true → (i : ℕ) × (has x i ≡ true) × (has (getD rows p 0) i ≡ true) → fedFrom rows x p ≡ false
-        meeting p m w =
-            let k : p < 16 = has-below 16 left p small m in
-            no-common x (unionOf rows) (w .0) calm (w .1) (unionOf-part rows p (w .0) (omega arith) (w .2))
-
     -- none is, but one may be fed
     pub next-fed : (p : ℕ) → Finds (fedFrom rows x) left p → Finds (comesNext rows x) left p
     next-fed p s =
@@ -124,6 +196,10 @@ module _ (rows : List ℕ) (x left : ℕ) where
           found = λ d. (s .found d .0, or-r (has x (containerOf p)) _ (s .found d .1));
           none = λ q k m. or-false-i _ _ (not-in k m) (s .none q k m);
         }
+
+    -- none is, and nothing in the set feeds a process
+    pub next-none : (all : ℕ) → Within rows left all → x ∩ all ≡ 0 → Finds (comesNext rows x) left 64
+    next-none all w calm = next-fed 64 (calm-none rows x left all w calm)
 
 -- ---- the search
 -- process p and the containers of its row
@@ -147,14 +223,6 @@ pub record Search (t : Tables) (fed : List ℕ) (u seen left : ℕ) : Type 0 whe
   pub leads : (v : ℕ) → has seen v ≡ true → Reaches t u v
   pub small : left < 65536
   pub gone : (p : ℕ) → p < 16 → has left p ≡ false → (v : ℕ) → has (near fed p) v ≡ true → has seen v ≡ true
-
--- all processes
-sixteen : 65535 ≡ those (λ p. ltb p 16)
-unfolding those thoseFrom bit
-sixteen = refl
-
-pub sixteen-has : (p : ℕ) → p < 16 → has 65535 p ≡ true
-sixteen-has p h = ap (λ (x : ℕ). has x p) sixteen ∙ those-has (λ p. ltb p 16) p (omega arith) ∙ lt-ltb p 16 h
 
 pub search-start : (t : Tables) (g : List ℕ) (u : ℕ) → u < 64 → Search t g u (0 ∪ only (u % 64)) 65535
 search-start t g u h =

@@ -1,6 +1,7 @@
 -- How three lent arrays stand for the maps of document 01, The box: the storage map, the alias map (02, Paper 4) and the naming maps.
 use Prim.Native.Nat.{ℕ, zero, suc, _+_, _-_, _*_, _/_, _%_, _^_}
 use mathlib.Core.Bool.{Bool, true, false}
+use mathlib.Core.Path.{_≡_}
 use mathlib.Core.List.{List, [], _∷_}
 use lib.Dec.{ltb, eqb}
 use lib.ListN.{getD, take, drop}
@@ -11,6 +12,7 @@ use Rattle.flow.specs.Lists.{table}
 use Rattle.flow.specs.Box.{containerCount, processCount, isFile, Tables}
 use Rattle.flow.specs.Links.{given}
 use Rattle.flow.specs.Calls.{Change, itemsAfter}
+use Rattle.flow.specs.Gained.{gained}
 use Rattle.store.specs.declared.Plan.{Plan}
 
 -- a state but for its rules
@@ -115,6 +117,19 @@ cleared items x = table containerCount (λ c. elim (has x c) [ true ↦ 0 | fals
 -- the items once a plan is made
 unfoldable pub itemsBy : List ℕ → Plan → List ℕ
 itemsBy items plan = given (given (cleared items (plan .empty)) (plan .to) (plan .given)) (plan .to2) (plan .given2)
+
+-- what a plan gives, without what it empties
+abbrev pub gifts : Plan → Plan
+gifts p = record { empty = 0; given = p .given; to = p .to; given2 = p .given2; to2 = p .to2 }
+
+-- container c is emptied and given the items x
+abbrev pub replacing : ℕ → ℕ → Plan
+replacing c x = record { empty = only c; given = x; to = only c; given2 = 0; to2 = 0 }
+
+-- a plan is made of the items in the words, and nothing else changes; g is the set of the containers that gained (02, Paper 5)
+pub record MakesItems (words : List ℕ) (plan : Plan) (after : List ℕ) (g : ℕ) : Type 0 where
+  pub made : (d n : List ℕ) → (let m = view words d n in view after d n ≡ withItems m (itemsBy (m .items) plan))
+  pub told : g ≡ gained (itemsIn words) (itemsBy (itemsIn words) plan)
 
 -- all files and pipes: the numbers 24 to 63
 abbrev pub files : ℕ

@@ -3,11 +3,13 @@ use crate::Plan;
 use crate::gifts::empty;
 use crate::gifts::empty_at;
 use crate::gifts::give;
+use crate::gifts::replace_at;
 use crate::limits::BLOCK;
 use crate::limits::CONTAINERS;
 use crate::limits::ITEMS_AT;
 use crate::limits::MAPS_AT;
 use crate::limits::NAMES;
+use crate::numbers::Container;
 use crate::numbers::Descriptor;
 use crate::numbers::Name;
 use crate::numbers::Process;
@@ -18,7 +20,8 @@ ghost use lib.ListN.{set, length};
 ghost use Rattle.sets.specs.Sets.{only};
 ghost use Rattle.flow.specs.Box.{slot};
 ghost use Rattle.flow.specs.Calls.{withLive};
-ghost use Rattle.store.specs.Maps.{view, withTables, withItems, cleared, containerSet, itemsBy};
+ghost use Rattle.store.specs.Maps.{view, withTables, withItems, cleared, containerSet, itemsBy, gifts, replacing, MakesItems};
+ghost use Rattle.flow.specs.Gained.{gained};
 
 pub fn set_live(words: &mut [u64; 353], x: u64)
     ensures { λ _. ⌜ ((d n : List ℕ) → let m = view (now (words .entry)) d n in view (now (words .exit)) d n ≡ withTables m (withLive (m .tables) x)) ⌝ }
@@ -48,28 +51,43 @@ pub fn set_name(names: &mut [u8; 128], n: Name, e: u8)
     names[(n.0 % NAMES) as usize] = e;
 }
 
-// Makes a plan.
-fn make(items: &mut [u64], plan: Plan)
+// Makes the gifts of a plan. Answers the containers that gained.
+fn make(items: &mut [u64], plan: Plan) -> u64
     requires { ⌜ length (now items) ≡ 64 ⌝ }
-    ensures { λ _. ⌜ now (items .exit) ≡ itemsBy (now (items .entry)) plan ⌝ }
+    ensures { λ g. ⌜ (let l = itemsBy (now (items .entry)) (gifts plan) in (now (items .exit) ≡ l) × (g ≡ gained (now (items .entry)) l)) ⌝ }
 {
-    empty(items, plan.empty);
-    give(items, plan.to, plan.given);
-    give(items, plan.to2, plan.given2);
+    let first = give(items, plan.to, plan.given);
+    let second = give(items, plan.to2, plan.given2);
+    first | second
 }
 
-fn make_part(words: &mut [u64], plan: Plan)
+fn make_part(words: &mut [u64], plan: Plan) -> u64
     requires { ⌜ length (now words) ≡ 353 ⌝ }
-    ensures { λ _. ⌜ ((d n : List ℕ) → let m = view (now (words .entry)) d n in view (now (words .exit)) d n ≡ withItems m (itemsBy (m .items) plan)) ⌝ }
+    ensures { λ g. ⌜ MakesItems (now (words .entry)) (gifts plan) (now (words .exit)) g ⌝ }
 {
-    make(&mut words[ITEMS_AT..MAPS_AT], plan);
+    make(&mut words[ITEMS_AT..MAPS_AT], plan)
 }
 
-// Makes a plan of the items.
-pub fn make_items(words: &mut [u64; 353], plan: Plan)
-    ensures { λ _. ⌜ ((d n : List ℕ) → let m = view (now (words .entry)) d n in view (now (words .exit)) d n ≡ withItems m (itemsBy (m .items) plan)) ⌝ }
+// Makes the gifts of a plan; nothing is emptied. Answers the containers that gained.
+pub fn make_items(words: &mut [u64; 353], plan: Plan) -> u64
+    ensures { λ g. ⌜ MakesItems (now (words .entry)) (gifts plan) (now (words .exit)) g ⌝ }
 {
-    make_part(words, plan);
+    make_part(words, plan)
+}
+
+fn replace_part(words: &mut [u64], c: u8, x: u64) -> u64
+    requires { ⌜ length (now words) ≡ 353 ⌝ }
+    ensures { λ g. ⌜ MakesItems (now (words .entry)) (replacing (c % 64) x) (now (words .exit)) g ⌝ }
+{
+    replace_at(&mut words[ITEMS_AT..MAPS_AT], c, x)
+}
+
+// Empties container c and gives it the items x. Answers the containers that gained: c or none. Apart from gifts, so that the compiler keeps
+// theirs short.
+pub fn replace_items(words: &mut [u64; 353], c: Container, x: u64) -> u64
+    ensures { λ g. ⌜ MakesItems (now (words .entry)) (replacing (c .0 % 64) x) (now (words .exit)) g ⌝ }
+{
+    replace_part(words, c.0, x)
 }
 
 fn empty_one_part(words: &mut [u64], c: u8)

@@ -1,6 +1,6 @@
 // Runs calls on a fresh tracker. Standard input, at most 65,536 bytes of it, is calls of five bytes each: kind, process, a, b, c; what is
-// left over is ignored. It writes a line for each call, 0 or the refusal's number; then each container's items as a number; then for each
-// item how many containers hold it, and which.
+// left over is ignored. It writes a line for each call: 0 and the set of the containers that gained, as a number, or the refusal's number. Then
+// come each container's items as a number, and for each item how many containers hold it, and which.
 ghost use mathlib.Core.Path.{_≡_};
 ghost use Prim.Native.Nat.{_/_};
 ghost use lib.ListN.{length};
@@ -49,11 +49,17 @@ fn print_number(n: u64) {
     write_line(&mut line, at);
 }
 
-// What a call got as a number: 0 once its change is made.
-fn number(work: Work) -> u8 {
+// Writes what a call got: 0 and the set of those that gained once its change is made, or the refusal's number.
+fn print_work(work: Work) {
     match work {
-        Work::Done => 0,
-        Work::Refused(n) => n,
+        Work::Done(gained) => {
+            let mut line = [0u8; 24];
+            let mut at = put(&mut line, 0, b'0');
+            at = put(&mut line, at, b' ');
+            at = put_number(&mut line, at, gained);
+            write_line(&mut line, at);
+        }
+        Work::Refused(n) => print_number(n as u64),
     }
 }
 
@@ -82,7 +88,7 @@ fn run(calls: &[u8]) -> Tracker
         let work = r.work;
         let after = r.tracker;
         t = after;
-        print_number(number(work) as u64);
+        print_work(work);
     }
     t
 }

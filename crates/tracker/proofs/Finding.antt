@@ -1,21 +1,24 @@
 -- What is released: of the containers whose use may have ended those that are not in use.
 use Prim.Native.Nat.{ℕ, _^_, _<_}
 use native.Mathlib.Omega.{arith}
-use mathlib.Core.Path.{_≡_, refl, sym, ap, _∙_}
-use mathlib.Core.Bool.{Bool, true, false, not, _&&_, _||_, and-comm, and-or-distrib-right}
+use native.Mathlib.Decide.{ℕ-discrete}
+use mathlib.Core.Path.{_≡_, refl, sym, ap, ap₂, _∙_}
+use mathlib.Core.Bool.{Bool, true, false, not, _&&_, _||_, and-comm, or-false, and-or-distrib-right}
 use mathlib.Core.List.{List}
 use lib.Dec.{eqb}
-use lib.ListN.{getD}
-use borrow.Author.Tests.{eqb-true}
-use Rattle.sets.specs.Sets.{has, only, _∪_}
-use Rattle.sets.proofs.Members.{union-has, only-has, none-has, those-has, those-lt, only-lt, set-ext}
-use Rattle.flow.specs.Box.{Tables, isFile, closed}
+use lib.ListN.{getD, length}
+use borrow.Author.Tests.{eqb-true, eq-eqb, ne-eqb}
+use Rattle.sets.specs.Sets.{has, only, without, lowest, _∪_, _∩_}
+use Rattle.sets.proofs.Members.{union-has, inter-has, inter-lt, only-has, none-has, those-has, those-lt, only-lt, set-ext, without-lt, without-at, without-other, member, turn-below}
+use Rattle.flow.specs.Box.{Tables, isFile, closed, feedersOf}
 use Rattle.flow.specs.Links.{isFed, used}
-use Rattle.flow.proofs.Bools.{by, chosen-l, chosen-r}
+use Rattle.flow.specs.Calls.{block}
+use Rattle.flow.proofs.Bools.{by, and-l, and-r, and-i, or-elim, same, chosen-l, chosen-r}
 use Rattle.flow.proofs.TableLaws.{table-at, table-length, is-table}
-use Rattle.store.specs.Maps.{cleared, fileSet, containerSet}
-use Rattle.store.proofs.Files.{file-range, fileSet-file, fileSet-none, containerSet-low}
-use Rattle.tracker.specs.Plans.{freeSet, freeAt, goneOf}
+use Rattle.store.specs.Maps.{Maps, withItems, cleared, files, filesIn, fileSet, containerSet}
+use Rattle.store.proofs.Worklist.{cleared-none}
+use Rattle.store.proofs.Files.{file-range, fileSet-file, fileSet-none, fileSet-has, filesIn-file, files-has, containerSet-low}
+use Rattle.tracker.specs.Plans.{freeSet, freeAt, heldBy, goneOf}
 
 -- ---- what no link leads into
 pub free-entry : (t : Tables) (c : ℕ) → c < 64 → containerSet (freeAt t c) ≡ freeSet t c
@@ -87,3 +90,63 @@ module _ (t : Tables) where
   -- of two sets
   pub gone-both : (x y c : ℕ) → c < 64 → (has (goneOf t x) c || has (goneOf t y) c) ≡ has (goneOf t (x ∪ y)) c
   gone-both x y c h = rw (gone-has x c h, gone-has y c h, gone-has (x ∪ y) c h, union-has x y c) (sym (and-or-distrib-right (has x c) (has y c) (not (used t c))))
+
+  -- of the files of a set, one of its members first
+  gone-turn : (left v : ℕ) → v < 64 → has left v ≡ true → (c : ℕ) → c < 64 → (has (goneOf t (fileSet v)) c || has (goneOf t (without left v ∩ files)) c) ≡ has (goneOf t (left ∩ files)) c
+  gone-turn left v l m c h =
+      gone-both (fileSet v) (without left v ∩ files) c h ∙ gone-has (fileSet v ∪ (without left v ∩ files)) c h ∙ ap (λ (b : Bool). b && not (used t c)) same ∙ sym (gone-has (left ∩ files) c h)
+    where
+      go : Dec (c ≡ v) → ((isFile c && eqb c v) || (has (without left v) c && isFile c)) ≡ (has left c && isFile c)
+      go (yes d) = rw (without-at left v c h d, eq-eqb c v d, ap (has left) d, m, or-false, and-comm)
+      go (no d) = rw (without-other left v c h d, ne-eqb c v d, and-comm (isFile c) false)
+
+      same : has (fileSet v ∪ (without left v ∩ files)) c ≡ has (left ∩ files) c
+      same = union-has (fileSet v) (without left v ∩ files) c ∙ rw (fileSet-has v c, inter-has (without left v) files c, inter-has left files c, files-has c h) (go (ℕ-discrete c v))
+
+-- ---- the loop: what is left leads to the whole
+pub record Releasing (m₀ m : Maps) (held left : ℕ) : Type 0 where
+  pub small : left < 2 ^ 64
+  pub long : length (m .items) ≡ 64
+  pub tables : m .tables ≡ m₀ .tables
+  pub same : cleared (m .items) (goneOf (m₀ .tables) (left ∩ files)) ≡ cleared (m₀ .items) (goneOf (m₀ .tables) (held ∩ files))
+
+pub releasing-start : (m : Maps) (held : ℕ) → held < 2 ^ 64 → length (m .items) ≡ 64 → Releasing m m held held
+releasing-start m held h l = record { small = h; long = l; tables = refl; same = refl }
+
+module _ {m₀ m : Maps} {held left : ℕ} (r : Releasing m₀ m held left) where
+  pub releasing-more : (left ≡ 0 → ⊥) → (v : ℕ) → v ≡ lowest left → (m′ : Maps) (later : ℕ) → m′ ≡ withItems m (cleared (m .items) (goneOf (m .tables) (fileSet v))) → later ≡ without left (lowest left) → Releasing m₀ m′ held later
+  unfolding cleared
+  releasing-more more v is m′ later e g =
+      let l : v < 64 = turn-below left (r .small) more v is in
+      rw (e, g, ← is, r .tables)
+      (record {
+        small = without-lt left v;
+        long = table-length 64 _;
+        tables = refl;
+        same = cleared-join (m .items) _ _ _ (gone-turn (m₀ .tables) left v l (member left (r .small) more v is)) ∙ r .same;
+      })
+
+  pub releasing-end : left ≡ 0 → m ≡ withItems m₀ (cleared (m₀ .items) (goneOf (m₀ .tables) (held ∩ files)))
+  unfolding cleared
+  releasing-end e =
+      let empty : left ∩ files ≡ 0 = set-ext _ 0 (inter-lt left files (r .small)) (omega arith) (λ c h. inter-has left files c ∙ rw (e, none-has c) refl) in
+      let none : m .items ≡ cleared (m .items) (goneOf (m₀ .tables) (left ∩ files)) = cleared-none (m .items) (r .long) ∙ ap (cleared (m .items)) (sym (ap (goneOf (m₀ .tables)) empty ∙ gone-none (m₀ .tables))) in
+      ap₂ (λ (t : Tables) (l : List ℕ). record { tables = t; items = l }) (r .tables) (none ∙ r .same)
+
+-- what a process holds are files and pipes
+pub held-files : (t : Tables) (q : ℕ) → (c : ℕ) → c < 64 → has (heldBy t q ∩ files) c ≡ has (heldBy t q) c
+unfolding heldBy
+held-files t q c h = inter-has x files c ∙ same _ _ (and-l (has x c) (has files c)) (λ e. and-i (has x c) (has files c) e (is-file e))
+  where
+    d : List ℕ
+    d = block (t .descriptors) q
+
+    x : ℕ
+    x = filesIn d ∪ (feedersOf t q ∩ files)
+
+    is-file : has x c ≡ true → has files c ≡ true
+    is-file e =
+        or-elim (has (filesIn d) c) _ (λ z. files-has c h ∙ filesIn-file d c z) (λ z. and-r (has (feedersOf t q) c) (has files c) (sym (inter-has (feedersOf t q) files c) ∙ z)) (sym (union-has (filesIn d) (feedersOf t q ∩ files) c) ∙ e)
+
+pub gone-held : (t u : Tables) (q : ℕ) → goneOf u (heldBy t q ∩ files) ≡ goneOf u (heldBy t q)
+gone-held t u q = set-ext _ _ (gone-lt u _) (gone-lt u _) (λ c h. gone-has u _ c h ∙ ap (λ (b : Bool). b && not (used u c)) (held-files t q c h) ∙ sym (gone-has u _ c h))

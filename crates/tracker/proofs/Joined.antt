@@ -1,25 +1,29 @@
 -- The parts of a call together: refusals, tables, items and what is released make the maps that the definitions say.
-use Prim.Native.Nat.{ℕ, zero, suc, _<_}
+use Prim.Native.Nat.{ℕ, zero, suc, _+_, _%_, _<_}
 use native.Mathlib.Omega.{arith}
 use mathlib.Core.Path.{_≡_, refl, sym, ap, ap₂, _∙_}
 use mathlib.Core.Bool.{Bool, true, false, not, _&&_, _||_, and-comm, true≢false}
-use mathlib.Core.List.{List}
+use mathlib.Core.List.{List, [], _∷_}
 use mathlib.Core.Option.{Option, none, some}
 use lib.Dec.{eqb}
 use lib.Bits.{or-zero-l}
 use lib.ListN.{length, getD}
 use lib.Seq.{ext-getD}
 use borrow.Author.Tests.{ltb-true, eqb-true, eq-eqb, ne-eqb}
-use Rattle.sets.specs.Sets.{has, only, _∪_}
+use Rattle.sets.specs.Sets.{has, only, _∪_, _∩_}
 use Rattle.sets.proofs.Members.{those-has, none-has, only-has, union-has, without-has, eqb-sym}
 use Rattle.flow.specs.Lists.{firstThat, refusalFrom}
 use Rattle.flow.specs.Box.{containerOf, Tables, descriptor}
 use Rattle.flow.specs.Links.{reach, given, givenFrom, isFed, used}
 use Rattle.flow.specs.MapBoth.{inSequence}
-use Rattle.flow.specs.Calls.{Kind, start, openName, create, pipe, device, dup, close, read, write, truncate, mapRead, mapBoth, unmap, unlink, rename, link, fork, exit, label, Call as Asked, Flow, still, gift, arrival, exchange, copy, clear, Change, withLive, withRow, withRows, withDescriptors, tablesBy, flowBy, change, moved, ended, itemsAfter}
-use Rattle.flow.specs.Records.{kindOf, callBy, callFrom}
+use Rattle.flow.specs.Calls.{Kind, kindNumber, start, openName, create, pipe, device, dup, close, read, write, truncate, mapRead, mapBoth, unmap, unlink, rename, link, fork, exit, label, Call as Asked, Flow, still, gift, arrival, exchange, copy, clear, Change, withLive, withRow, withRows, withDescriptors, tablesBy, flowBy, change, moved, ended, itemsAfter}
+use Rattle.flow.specs.Records.{kinds, kindOf, callBy, callFrom}
+use Rattle.flow.specs.Consequences.{KindsNumbered}
+use Rattle.flow.proofs.KindLaws.{kinds-numbered}
 use Rattle.flow.specs.Refusals.{ranges, inRange, callTests}
-use Rattle.flow.proofs.Bools.{or-elim, or-r, by, no-both, choice, chosen-l, chosen-r}
+use Rattle.flow.specs.Gained.{hasMore, gained}
+use Rattle.flow.proofs.GainLaws.{more-some, some-more, gained-at, gained-lt, gained-is, gained-none}
+use Rattle.flow.proofs.Bools.{or-elim, or-r, or-false-l, or-false-r, by, no-both, choice, chosen-l, chosen-r, same}
 use Rattle.flow.proofs.TableLaws.{table-at, table-length, is-table}
 use Rattle.flow.proofs.Moves.{given-at}
 use Rattle.flow.proofs.Rows.{now-live}
@@ -27,13 +31,16 @@ use Rattle.flow.proofs.Use.{used-process}
 use Rattle.flow.proofs.Mapping.{Sized}
 use Rattle.flow.proofs.Accepted.{Accepted, accepted, fits-a}
 use Rattle.store.specs.declared.Plan.{Plan}
-use Rattle.store.specs.Maps.{Maps, withItems, view, cleared, itemsBy}
+use Rattle.store.specs.Maps.{Maps, withTables, withItems, view, cleared, files, itemsIn, itemsBy, gifts, replacing, MakesItems}
 use Rattle.store.proofs.Words.{by-length}
+use Rattle.store.proofs.Worklist.{cleared-none}
 use Rattle.tracker.specs.declared.Call.{Call}
 use Rattle.tracker.specs.Rows.{asked, callIn, tablesAt, Passes}
 use Rattle.tracker.specs.Plans.{nothing, planOf, planBy, planAt, givesBy, givesAt, freeSet, emptiedBy, emptiedAt, giving, heldBy, lostBy, lostAt, goneOf}
 use Rattle.tracker.specs.Worked.{given as givenBy, finished, Worked, done, mapsBy, worked, Foreseen}
+use Rattle.tracker.proofs.Arms.{kind-rest}
 use Rattle.tracker.proofs.Facts.{fit-process}
+use Rattle.tracker.proofs.Finding.{gone-none, gone-held}
 use Rattle.tracker.proofs.Ending.{Ends, ends}
 
 -- ---- a flow is its plan
@@ -161,6 +168,27 @@ passes-on w d n x q h e = record { none-holds = ap (λ (t : Tables). firstThat (
 pub still-passes : (w d n x : List ℕ) (q : Call) → Passes w d n q → view x d n ≡ givenBy (view w d n) q → Passes x d n q
 unfolding givenBy
 still-passes w d n x q h e = passes-on w d n x q h (ap (λ (m : Maps). m .tables) e)
+
+-- ---- a call that can give: its plan is made
+-- the plan of any call but a fork empties nothing
+pub gifts-alone : (m : Maps) (q : Call) → (q .kind ≡ 17 → ⊥) → gifts (planAt m q (kindOf (q .kind))) ≡ planAt m q (kindOf (q .kind))
+unfolding planAt planBy planOf flowBy kinds
+gifts-alone m q n =
+    let p : Plan = planAt m q (kindOf (q .kind)) in
+    ap (λ (e : ℕ). record { empty = e; given = p .given; to = p .to; given2 = p .given2; to2 = p .to2 }) (kind-rest (λ o. planAt m q o .empty) ((17 ∷ []) ∷ []) refl _ (tt, n))
+
+-- that of a fork replaces what the child holds
+pub copies : (m : Maps) (q : Call) → q .kind ≡ 17 → (8 + q .a) % 64 ≡ containerOf (q .a) → (x : ℕ) → x ≡ planAt m q (kindOf (q .kind)) .given
+    → replacing ((8 + q .a) % 64) x ≡ planAt m q (kindOf (q .kind))
+unfolding planAt planBy planOf flowBy kinds kindOf
+copies m q k c x e = rw (c, e, k) refl
+
+-- the maps once it is made, and those that gained
+pub gives-by : (w d n x : List ℕ) (q : Call) (plan : Plan) (g : ℕ) → plan ≡ planAt (view w d n) q (kindOf (q .kind)) → MakesItems w plan x g
+    → (view x d n ≡ givenBy (view w d n) q) × (g ≡ gained (view w d n .items) (givenBy (view w d n) q .items))
+unfolding givenBy view
+gives-by w d n x q plan g e h =
+    (h .made d n ∙ ap (λ (p : Plan). withItems (view w d n) (itemsBy (view w d n .items) p)) e, h .told ∙ ap (λ (p : Plan). gained (itemsIn w) (itemsBy (itemsIn w) p)) e)
 
 -- ---- what is released
 lost-ended : (m : Maps) (x : Change) (lost : ℕ) → Ends (m .tables) (x .tables) lost
@@ -336,31 +364,145 @@ gift-made m long g u =
     ∙ sym (moved-made m long (gift g u)) ∙ kept (itemsBy (m .items) (planOf m (gift g u))) (by-length _ _)
 
 -- ---- what `work` answers
+worked-refusal : (m : Maps) (q : Option Asked) → worked m q .refusal ≡ firstThat (callTests (m .tables) q)
+unfolding worked
+worked-refusal m q = refl
+
 by-number : (m : Maps) (q : Option Asked) (n : ℕ) (o : Option ℕ) → refusalFrom n ≡ o → (n ≡ 0 → ⊥) → m ≡ mapsBy m q o
 unfolding refusalFrom mapsBy
 by-number m q zero o e z = absurd (z refl)
 by-number m q (suc n) o e z = rw (← e) refl
 
-pub refused : (m : Maps) (q : Option Asked) (n : ℕ) → refusalFrom n ≡ firstThat (callTests (m .tables) q) → (n ≡ 0 → ⊥) → done (refusalFrom n) m ≡ worked m q
+pub refused : (m : Maps) (q : Option Asked) (n : ℕ) → refusalFrom n ≡ firstThat (callTests (m .tables) q) → (n ≡ 0 → ⊥) → done (refusalFrom n) m 0 ≡ worked m q
 unfolding worked
-refused m q n e z = ap₂ done e (by-number m q n _ e z)
+refused m q n e z =
+    let k : m ≡ mapsBy m q (firstThat (callTests (m .tables) q)) = by-number m q n _ e z in
+    let g : gained (m .items) (mapsBy m q (firstThat (callTests (m .tables) q)) .items) ≡ 0 = rw (← k) (gained-none (m .items) (m .items) (λ c i l h. h)) in
+    rw g (ap₂ (λ (r : Option ℕ) (w : Maps). done r w 0) e k)
 
 pub passes : (n : ℕ) (o : Option ℕ) → refusalFrom n ≡ o → n ≡ 0 → o ≡ none
 unfolding refusalFrom
 passes n o e z = sym e ∙ rw z refl
 
-pub worked-out : (m w : Maps) (q : Option Asked) → firstThat (callTests (m .tables) q) ≡ none → w ≡ mapsBy m q none → done (refusalFrom 0) w ≡ worked m q
+pub worked-out : (m w : Maps) (q : Option Asked) (g : ℕ) → firstThat (callTests (m .tables) q) ≡ none → w ≡ mapsBy m q none → g ≡ gained (m .items) (mapsBy m q none .items)
+    → done (refusalFrom 0) w g ≡ worked m q
 unfolding worked refusalFrom
-worked-out m w q e h = rw e (ap (done none) h)
+worked-out m w q g e h f = rw e (ap₂ (done none) h f)
+
+-- ---- what gains by a call gains by its plan (02, Paper 5)
+module _ (items after : List ℕ) (p : Plan) (f : Foreseen items after p) where
+  -- what the plan does not give to holds no more than before
+  not-given : (v i : ℕ) → v < 64 → has (p .to ∪ p .to2) v ≡ false → has (getD (itemsBy items p) v 0) i ≡ true → has (getD items v 0) i ≡ true
+  not-given v i h n e =
+      let k : (has (p .to) v || has (p .to2) v) ≡ false = sym (union-has (p .to) (p .to2) v) ∙ n in
+      unless-less (has (p .empty) v) (getD items v 0) i
+      (ap (λ (x : ℕ). has x i) (sym (by-container items p v h ∙ chosen-r (has (p .to2) v) _ _ (or-false-r (has (p .to) v) _ k) ∙ chosen-r (has (p .to) v) _ _ (or-false-l (has (p .to) v) _ k))) ∙ e)
+
+  pub foreseen-gained : gained items (itemsBy items p) ≡ gained items after
+  foreseen-gained =
+      gained-is items after (gained items (itemsBy items p)) (gained-lt items (itemsBy items p))
+      (λ v h. gained-at items (itemsBy items p) v h ∙ same _ _
+      (λ e. by (has (p .to ∪ p .to2) v) (λ z. ap (hasMore (getD items v 0)) (f .same v h z) ∙ e)
+      (λ z. let g = some-more _ _ e in no-both (not-given v (g .0) h z (g .1)) (g .2)))
+      (λ e. let g = some-more _ _ e in more-some _ _ (g .0) (f .less v (g .0) h (g .1)) (g .2)))
+
+module _ (m : Maps) (long : length (m .items) ≡ 64) (sized : Sized (m .tables)) (ln : length (m .tables .names) ≡ 128) (q : Call) (e : firstThat (callTests (m .tables) (callIn q)) ≡ none) where
+  told-by : (o : Option Asked) → callIn q ≡ o → gained (m .items) (givenBy m q .items) ≡ gained (m .items) (mapsBy m o none .items)
+  unfolding givenBy mapsBy callTests firstThat
+  told-by none c = absurd (let z : firstThat (callTests (m .tables) none) ≡ none = rw c at e in let y : _≡_ {A = ℕ} 0 1 = cc in let w : ⊥ = omega arith in w)
+  told-by (some x) c = foreseen-gained (m .items) _ _ (foreseen m long sized ln q x c e)
+
+  pub gained-call : gained (m .items) (givenBy m q .items) ≡ gained (m .items) (mapsBy m (callIn q) none .items)
+  gained-call = told-by (callIn q) refl
+
+  -- where nothing is given
+  pub gained-quiet : givesAt (kindOf (q .kind)) ≡ false → 0 ≡ gained (m .items) (mapsBy m (callIn q) none .items)
+  gained-quiet n = sym (gained-none (m .items) (m .items) (λ c i l h. h)) ∙ ap (λ (w : Maps). gained (m .items) (w .items)) (quiet-given m long q n) ∙ gained-call
 
 -- ---- what `Tracker::call` answers
-pub refused-call : (n : ℕ) (m w : Maps) (q : Option Asked) → (n ≡ 0 → ⊥) → done (refusalFrom n) w ≡ worked m q → done (some n) m ≡ worked m q
-unfolding refusalFrom worked mapsBy
-refused-call zero m w q z e = absurd (z refl)
-refused-call (suc n) m w q z e =
-    let h : some (suc n) ≡ firstThat (callTests (m .tables) q) = ap (λ (x : Worked). x .refusal) e in
-    rw (← h) refl
-
-pub made-done : (n : ℕ) (m w : Maps) (q : Option Asked) → n ≡ 0 → done (refusalFrom n) w ≡ worked m q → done none w ≡ worked m q
+pub refused-call : (n : ℕ) (m w : Maps) (q : Option Asked) (g : ℕ) → (n ≡ 0 → ⊥) → done (refusalFrom n) w g ≡ worked m q → done (some n) m 0 ≡ worked m q
 unfolding refusalFrom
-made-done n m w q z e = rw z at e
+refused-call zero m w q g z e = absurd (z refl)
+refused-call (suc n) m w q g z e = refused m q (suc n) (ap (λ (x : Worked). x .refusal) e ∙ worked-refusal m q) z
+
+pub made-done : (n : ℕ) (m w : Maps) (q : Option Asked) (g : ℕ) → n ≡ 0 → done (refusalFrom n) w g ≡ worked m q → done none w g ≡ worked m q
+unfolding refusalFrom
+made-done n m w q g z e = rw z at e
+
+-- ---- the rest of a call that can give
+gives-empties : (t : Tables) (p a b c : ℕ) (k : Kind) → givesBy k ≡ true → emptiedBy t p a b c k ≡ 0
+unfolding givesBy emptiedBy
+gives-empties t p a b c start h = no-both h refl
+gives-empties t p a b c openName h = refl
+gives-empties t p a b c create h = no-both h refl
+gives-empties t p a b c pipe h = no-both h refl
+gives-empties t p a b c device h = refl
+gives-empties t p a b c dup h = refl
+gives-empties t p a b c close h = refl
+gives-empties t p a b c read h = refl
+gives-empties t p a b c write h = refl
+gives-empties t p a b c truncate h = no-both h refl
+gives-empties t p a b c mapRead h = refl
+gives-empties t p a b c mapBoth h = refl
+gives-empties t p a b c unmap h = refl
+gives-empties t p a b c unlink h = refl
+gives-empties t p a b c rename h = refl
+gives-empties t p a b c link h = refl
+gives-empties t p a b c fork h = refl
+gives-empties t p a b c exit h = refl
+gives-empties t p a b c label h = refl
+
+gives-empties-at : (t : Tables) (q : Call) (o : Option Kind) → givesAt o ≡ true → emptiedAt t q o ≡ 0
+unfolding givesAt emptiedAt
+gives-empties-at t q none h = refl
+gives-empties-at t q (some k) h = gives-empties t (q .process) (q .a) (q .b) (q .c) k h
+
+-- the maps w after the tables are changed and the set x of those that are not in use is emptied
+pub finished-given : (m w : Maps) → length (m .items) ≡ 64 → (q : Call) → givesAt (kindOf (q .kind)) ≡ true → (x : ℕ)
+    → (let t = tablesAt (m .tables) q (kindOf (q .kind)) in goneOf t x ≡ goneOf t (lostAt (m .tables) q (kindOf (q .kind))) → w ≡ record { tables = t; items = cleared (m .items) (goneOf t x) } → w ≡ finished m q)
+unfolding finished
+finished-given m w long q h x e f =
+    let t : Tables = tablesAt (m .tables) q (kindOf (q .kind)) in
+    let none : m .items ≡ cleared (m .items) (emptiedAt (m .tables) q (kindOf (q .kind))) = cleared-none (m .items) long ∙ ap (cleared (m .items)) (sym (gives-empties-at (m .tables) q (kindOf (q .kind)) h)) in
+    f ∙ ap (λ (l : List ℕ). record { tables = t; items = l }) (ap₂ cleared none e)
+
+pub finished-fork : (m w : Maps) → length (m .items) ≡ 64 → (q : Call) → q .kind ≡ 17 → (held : ℕ) → held ≡ heldBy (m .tables) (q .a)
+    → (let f = withTables m (tablesBy (m .tables) (q .process) (q .a) 0 0 fork) in w ≡ withItems f (cleared (f .items) (goneOf (f .tables) (held ∩ files))) → w ≡ finished m q)
+unfolding kindOf kinds tablesAt tablesBy lostAt lostBy givesAt givesBy
+finished-fork m w long q k held e f =
+    finished-given m w long q (rw k refl) (held ∩ files) (rw (k, e) (gone-held (m .tables) _ (q .a))) (rw k f)
+
+lost-none : (t : Tables) (p a b c : ℕ) (k : Kind) → givesBy k ≡ true → (k ≡ fork → ⊥) → lostBy t p a b c k ≡ 0
+unfolding givesBy lostBy
+lost-none t p a b c start h n = refl
+lost-none t p a b c openName h n = refl
+lost-none t p a b c create h n = refl
+lost-none t p a b c pipe h n = refl
+lost-none t p a b c device h n = refl
+lost-none t p a b c dup h n = refl
+lost-none t p a b c close h n = no-both h refl
+lost-none t p a b c read h n = refl
+lost-none t p a b c write h n = refl
+lost-none t p a b c truncate h n = refl
+lost-none t p a b c mapRead h n = refl
+lost-none t p a b c mapBoth h n = refl
+lost-none t p a b c unmap h n = no-both h refl
+lost-none t p a b c unlink h n = no-both h refl
+lost-none t p a b c rename h n = no-both h refl
+lost-none t p a b c link h n = refl
+lost-none t p a b c fork h n = absurd (n refl)
+lost-none t p a b c exit h n = no-both h refl
+lost-none t p a b c label h n = refl
+
+lost-none-at : (t : Tables) (q : Call) (o : Option Kind) → givesAt o ≡ true → (o ≡ some fork → ⊥) → lostAt t q o ≡ 0
+unfolding givesAt lostAt
+lost-none-at t q none h n = refl
+lost-none-at t q (some k) h n = lost-none t (q .process) (q .a) (q .b) (q .c) k h (λ e. n (ap some e))
+
+pub finished-raised : (m w : Maps) → length (m .items) ≡ 64 → (q : Call) → givesAt (kindOf (q .kind)) ≡ true → (q .kind ≡ 17 → ⊥)
+    → w ≡ withTables m (tablesAt (m .tables) q (kindOf (q .kind))) → w ≡ finished m q
+unfolding KindsNumbered kindNumber
+finished-raised m w long q h n e =
+    let t : Tables = tablesAt (m .tables) q (kindOf (q .kind)) in
+    finished-given m w long q h 0 (ap (goneOf t) (sym (lost-none-at (m .tables) q (kindOf (q .kind)) h (λ z. n (kinds-numbered (q .kind) fork .0 z)))))
+    (e ∙ ap (λ (l : List ℕ). record { tables = t; items = l }) (cleared-none (m .items) long ∙ ap (cleared (m .items)) (sym (gone-none t))))

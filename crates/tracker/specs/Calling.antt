@@ -12,10 +12,16 @@ use Rattle.tracker.specs.Worked.{done, worked}
 
 -- the number of the refusal, if there is one
 unfoldable pub refusalOf : Work → Option ℕ
-refusalOf Done = none
+refusalOf (Done g) = none
 refusalOf (Refused n) = some n
 
--- Of the call q on the tracker t: refusal and maps are those of the definitions, and a refused call gives back the tracker that it met.
+-- the containers that gained; by a refused call, none
+unfoldable pub gainedBy : Work → ℕ
+gainedBy (Done g) = g
+gainedBy (Refused n) = 0
+
+-- Of the call q on the tracker t: refusal, maps and what gained are those of the definitions, and a refused call gives back the tracker that
+-- it met.
 pub record AnswersCall (t : Tracker) (q : Option Call) (r : Called) : Type 0 where
-  pub works : done (refusalOf (r .work)) (view (r .tracker)) ≡ worked (view t) q
+  pub works : done (refusalOf (r .work)) (view (r .tracker)) (gainedBy (r .work)) ≡ worked (view t) q
   pub kept : (n : ℕ) → r .work ≡ Refused n → r .tracker ≡ t

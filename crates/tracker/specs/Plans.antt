@@ -2,11 +2,13 @@
 use Prim.Native.Nat.{ℕ}
 use mathlib.Core.Bool.{Bool, true, false, not, _&&_}
 use mathlib.Core.Option.{Option, none, some}
+use mathlib.Core.Path.{_≡_}
 use lib.ListN.{getD}
 use Rattle.sets.specs.Sets.{has, only, those, _∪_, _∩_}
 use Rattle.flow.specs.Box.{closed, containerOf, Tables, feedersOf, descriptor, name}
 use Rattle.flow.specs.Links.{reach, givenFrom, isFed, used}
 use Rattle.flow.specs.Calls.{Kind, start, openName, create, pipe, device, dup, close, read, write, truncate, mapRead, mapBoth, unmap, unlink, rename, link, fork, exit, label, Flow, still, gift, arrival, exchange, copy, clear, block, flowBy}
+use Rattle.flow.specs.Records.{kindOf}
 use Rattle.store.specs.declared.Plan.{Plan}
 use Rattle.store.specs.Maps.{Maps, files, fileSet, filesIn}
 use Rattle.tracker.specs.declared.Call.{Call}
@@ -82,6 +84,10 @@ givesBy label = true
 unfoldable pub givesAt : Option Kind → Bool
 givesAt none = false
 givesAt (some k) = givesBy k
+
+-- calls that give once: neither a map both, which gives twice, nor a fork, which gives to a container that it empties
+abbrev pub GivesOnce : Call → Type 0
+GivesOnce q = (givesAt (kindOf (q .kind)) ≡ true) × (q .kind ≡ 12 → ⊥) × (q .kind ≡ 17 → ⊥)
 
 -- ---- what is emptied
 -- the set of c where no link leads into c

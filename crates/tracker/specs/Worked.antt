@@ -10,6 +10,7 @@ use Rattle.flow.specs.Lists.{firstThat}
 use Rattle.flow.specs.Box.{containerCount}
 use Rattle.flow.specs.Calls.{Call, change}
 use Rattle.flow.specs.Refusals.{callTests}
+use Rattle.flow.specs.Gained.{gained}
 use Rattle.store.specs.declared.Plan.{Plan}
 use Rattle.flow.specs.Records.{kindOf}
 use Rattle.store.specs.Maps.{Maps, withItems, changed, cleared, itemsBy}
@@ -30,21 +31,31 @@ finished m q =
     record { tables = t; items = cleared (cleared (m .items) (emptiedAt (m .tables) q k)) (goneOf t (lostAt (m .tables) q k)) }
 
 -- ---- the whole call
+-- with the containers that gained (02, Paper 5)
 pub record Worked : Type 0 where
   pub refusal : Option ℕ
   pub maps : Maps
+  pub gained : ℕ
 
 unfoldable pub mapsBy : Maps → Option Call → Option ℕ → Maps
 mapsBy m q (some n) = m
 mapsBy m none none = m
 mapsBy m (some q) none = changed m (change (m .tables) q)
 
-abbrev pub done : Option ℕ → Maps → Worked
-done refusal m = record { refusal = refusal; maps = m }
+abbrev pub done : Option ℕ → Maps → ℕ → Worked
+done refusal m g = record { refusal = refusal; maps = m; gained = g }
 
 -- the tests of document 01's table decide; a call that none holds of makes its change
 unfoldable pub worked : Maps → Option Call → Worked
-worked m q = let refusal = firstThat (callTests (m .tables) q) in done refusal (mapsBy m q refusal)
+worked m q =
+    let refusal = firstThat (callTests (m .tables) q) in
+    let after = mapsBy m q refusal in
+    done refusal after (gained (m .items) (after .items))
+
+-- what a call gives is made, then the rest of its change: the maps after it, and the containers that gained
+pub record Gives (m : Maps) (q : Bytes) (after : Maps) (g : ℕ) : Type 0 where
+  pub made : after ≡ finished (given m q) q
+  pub told : g ≡ gained (m .items) (given m q .items)
 
 -- What a plan says of the items after a call, `after`: nothing is held there but by the plan, and what the plan gives to has what the plan says.
 pub record Foreseen (items after : List ℕ) (plan : Plan) : Type 0 where

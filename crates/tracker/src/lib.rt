@@ -36,9 +36,9 @@ pub struct Tracker {
     names: [u8; 128],
 }
 
-// What a call gets here: its change is made, or it is refused with a number.
+// What a call gets here: its change is made, with the containers that gained (document 02, Paper 5), or it is refused with a number.
 pub enum Work {
-    Done,
+    Done(u64),
     Refused(u8),
 }
 
@@ -93,15 +93,15 @@ impl Tracker {
         let mut words = self.words;
         let mut descriptors = self.descriptors;
         let mut names = self.names;
-        let n = calls::work(&mut words, &mut descriptors, &mut names, q);
-        if n != 0 {
+        let made = calls::work(&mut words, &mut descriptors, &mut names, q);
+        if made.refusal != 0 {
             return Called {
-                work: Work::Refused(n),
+                work: Work::Refused(made.refusal),
                 tracker: self,
             };
         }
         Called {
-            work: Work::Done,
+            work: Work::Done(made.gained),
             tracker: Tracker {
                 words,
                 descriptors,

@@ -16,7 +16,7 @@ ghost use Rattle.flow.specs.Calls.{exchange};
 ghost use Rattle.flow.specs.Records.{kindOf};
 ghost use Rattle.store.specs.Maps.{view, mapsBefore};
 ghost use Rattle.tracker.specs.Rows.{Passes};
-ghost use Rattle.tracker.specs.Plans.{planOf, planAt, giving as givingTo, givesAt};
+ghost use Rattle.tracker.specs.Plans.{planOf, planAt, giving as givingTo, givesAt, GivesOnce};
 
 // Whether calls of this kind can give an item to a container.
 pub fn gives(kind: u8) -> bool
@@ -58,9 +58,10 @@ fn exchanging(words: &[u64; 353], first: Container, second: Container) -> Plan
     }
 }
 
-// The plan of a call that is not refused.
-pub fn plan_of(words: &[u64; 353], descriptors: &[u8; 512], names: &[u8; 128], q: Call) -> Plan
-    requires { ⌜ Passes (now words) (now descriptors) (now names) q ⌝ }
+// The plan of a call that gives once and is not refused: a read, a write, a map read or a label. Each sort of plan has a function of its own, so
+// that the compiler keeps what that sort needs.
+pub fn gift_of(words: &[u64; 353], descriptors: &[u8; 512], names: &[u8; 128], q: Call) -> Plan
+    requires { ⌜ Passes (now words) (now descriptors) (now names) q × GivesOnce q ⌝ }
     ensures { λ r. ⌜ r ≡ planAt (mapsBefore words descriptors names) q (kindOf (q .kind)) ⌝ }
 {
     let kind = q.kind;
@@ -78,23 +79,37 @@ pub fn plan_of(words: &[u64; 353], descriptors: &[u8; 512], names: &[u8; 128], q
             let own = DEVICES + p;
             giving(items(words, Container(own)), reach(words, Container(to)))
         }
-        12 => {
-            let to = descriptor(descriptors, Process(p), Descriptor(a));
-            let own = DEVICES + p;
-            exchanging(words, Container(to), Container(own))
-        }
-        17 => {
-            let child = sets::with(0, DEVICES + a);
-            let own = DEVICES + p;
-            Plan {
-                empty: child,
-                given: items(words, Container(own)),
-                to: child,
-                given2: 0,
-                to2: 0,
-            }
-        }
         19 => giving(sets::with(0, b), reach(words, Container(a))),
         _ => giving(0, 0),
+    }
+}
+
+// The plan of a map both that is not refused.
+pub fn exchange_of(words: &[u64; 353], descriptors: &[u8; 512], names: &[u8; 128], q: Call) -> Plan
+    requires { ⌜ Passes (now words) (now descriptors) (now names) q × (q .kind ≡ 12) ⌝ }
+    ensures { λ r. ⌜ r ≡ planAt (mapsBefore words descriptors names) q (kindOf (q .kind)) ⌝ }
+{
+    let p = q.process;
+    let a = q.a;
+    let to = descriptor(descriptors, Process(p), Descriptor(a));
+    let own = DEVICES + p;
+    exchanging(words, Container(to), Container(own))
+}
+
+// The plan of a fork that is not refused.
+pub fn copy_of(words: &[u64; 353], descriptors: &[u8; 512], names: &[u8; 128], q: Call) -> Plan
+    requires { ⌜ Passes (now words) (now descriptors) (now names) q × (q .kind ≡ 17) ⌝ }
+    ensures { λ r. ⌜ r ≡ planAt (mapsBefore words descriptors names) q (kindOf (q .kind)) ⌝ }
+{
+    let p = q.process;
+    let a = q.a;
+    let child = sets::with(0, DEVICES + a);
+    let own = DEVICES + p;
+    Plan {
+        empty: child,
+        given: items(words, Container(own)),
+        to: child,
+        given2: 0,
+        to2: 0,
     }
 }

@@ -23,12 +23,13 @@ ghost use Prim.Native.Nat.{ℕ};
 ghost use mathlib.Core.Path.{_≡_};
 ghost use mathlib.Core.List.{List};
 ghost use Rattle.flow.specs.Records.{kindOf};
-ghost use Rattle.store.specs.Maps.{view, withItems, cleared, fileSet, containerSet, mapsBefore, mapsAfter};
+ghost use Rattle.sets.specs.Sets.{_∩_};
+ghost use Rattle.store.specs.Maps.{view, withItems, cleared, files, fileSet, containerSet, mapsBefore, mapsAfter};
 ghost use Rattle.tracker.specs.Rows.{Passes};
 ghost use Rattle.tracker.specs.Plans.{heldBy, lostSet, lostAt, freeAt, emptiedAt, goneOf};
 
 // The files and pipes that process p leads to or maps.
-fn held_by(words: &[u64; 353], descriptors: &[u8; 512], p: u8) -> u64
+pub fn held_by(words: &[u64; 353], descriptors: &[u8; 512], p: u8) -> u64
     ensures { λ r. ⌜ ((n : List ℕ) → r ≡ heldBy (view (now (words .entry)) (now (descriptors .entry)) n .tables) p) ⌝ }
 {
     block_files(descriptors, Process(p)) | (maps(words, Process(p)) & FILES)
@@ -138,6 +139,19 @@ fn release_held(words: &mut [u64; 353], descriptors: &[u8; 512], names: &[u8; 12
     if held != 0 {
         let gone = unused_of(words, descriptors, names, held);
         empty_set(words, gone);
+    }
+}
+
+// The same of its files and pipes, one after the other: for a fork, whose child holds none in a tracker that records made.
+pub fn release_each(words: &mut [u64; 353], descriptors: &[u8; 512], names: &[u8; 128], held: u64)
+    ensures { λ _. ⌜ (let m = mapsBefore words descriptors names in mapsAfter words descriptors names ≡ withItems m (cleared (m .items) (goneOf (m .tables) (held ∩ files)))) ⌝ }
+{
+    sets::lengths(words, names);
+    let mut left = held;
+    while left != 0 {
+        let v = sets::lowest(left) as u8;
+        release_one(words, descriptors, names, v);
+        left = sets::rest(left);
     }
 }
 

@@ -30,6 +30,7 @@ ghost use Rattle.flow.specs.Calls.{fork as forking, exit as exiting, withLive, 
 ghost use Rattle.flow.specs.Records.{kindOf};
 ghost use Rattle.store.specs.Maps.{view, withTables, mapsBefore, mapsAfter};
 ghost use Rattle.tracker.specs.Rows.{tablesAt, Passes};
+ghost use Rattle.tracker.specs.Plans.{GivesOnce};
 
 // Makes process p live.
 fn start(words: &mut [u64; 353], p: u8)
@@ -66,7 +67,7 @@ fn rename(names: &mut [u8; 128], a: u8, b: u8)
 }
 
 // The child is live, with the mappings and descriptors of process p.
-fn fork(words: &mut [u64; 353], descriptors: &mut [u8; 512], p: u8, child: u8)
+pub fn fork(words: &mut [u64; 353], descriptors: &mut [u8; 512], p: u8, child: u8)
     requires { ⌜ (p < 16) × (child < 16) ⌝ }
     ensures { λ _. ⌜ ((n : List ℕ) → let m = view (now (words .entry)) (now (descriptors .entry)) n in view (now (words .exit)) (now (descriptors .exit)) n ≡ withTables m (tablesBy (m .tables) p child 0 0 forking)) ⌝ }
 {
@@ -132,4 +133,28 @@ pub fn change_tables(
         18 => exit(words, descriptors, p),
         _ => {}
     }
+}
+
+// The same of the calls that give once: a mapping more for reading, or nothing.
+pub fn raise_read(words: &mut [u64; 353], descriptors: &[u8; 512], names: &[u8; 128], q: Call)
+    requires { ⌜ Passes (now words) (now descriptors) (now names) q × GivesOnce q ⌝ }
+    ensures { λ _. ⌜ (let m = mapsBefore words descriptors names in mapsAfter words descriptors names ≡ withTables m (tablesAt (m .tables) q (kindOf (q .kind)))) ⌝ }
+{
+    let kind = q.kind;
+    match kind {
+        11 => {
+            let to = descriptor(descriptors, Process(q.process), Descriptor(q.a));
+            raise(words, Sort(TO_READ), Process(q.process), Container(to));
+        }
+        _ => {}
+    }
+}
+
+// The same of a map both: a mapping more both ways.
+pub fn raise_both(words: &mut [u64; 353], descriptors: &[u8; 512], names: &[u8; 128], q: Call)
+    requires { ⌜ Passes (now words) (now descriptors) (now names) q × (q .kind ≡ 12) ⌝ }
+    ensures { λ _. ⌜ (let m = mapsBefore words descriptors names in mapsAfter words descriptors names ≡ withTables m (tablesAt (m .tables) q (kindOf (q .kind)))) ⌝ }
+{
+    let to = descriptor(descriptors, Process(q.process), Descriptor(q.a));
+    raise(words, Sort(BOTH_WAYS), Process(q.process), Container(to));
 }

@@ -1,7 +1,7 @@
 //! Pomtvia for Rust: a data flow tracker for the system calls of a small box.
 //!
 //! A [`Monitor`] is a tracker with its rules. [`Monitor::new`] makes it and its methods alone change it, so no loaded rule is ever broken in
-//! it; for every such monitor and all bytes the functions behind the methods are proved to answer as document 01 says, with Papers 1 to 4 of
+//! it; for every such monitor and all bytes the functions behind the methods are proved to answer as document 01 says, with Papers 1 to 5 of
 //! document 02. Every method is safe to call with any value: what the functions ask of memory (pointers that hold as much as is said, nothing
 //! shared while it is written) follows from the types here. Nothing is allocated.
 #![no_std]
@@ -57,15 +57,19 @@ impl Refusal {
     pub const SLICE_SHORT: Refusal = Refusal(13);
 }
 
-/// What a record gets.
+/// The most containers that can gain by a call: all.
+const CONTAINERS: u8 = 64;
+
+/// What a record gets. A container gained if it holds after the call an item that it lacked before; each is counted once, so `gained` is at
+/// most 64 (document 02, Paper 5).
 #[derive(Clone, Copy, Debug, PartialEq, Eq)]
 pub enum Answer {
-    /// The call's change is made.
-    Allow,
+    /// The call's change is made; so many containers gained.
+    Allow { gained: u8 },
     /// Nothing changed: the call would break the rule of this number, the lowest.
     Inhibit(u8),
-    /// The write would break the rule, and went to the substitute instead.
-    Modify { rule: u8, substitute: u8 },
+    /// The write would break the rule, and went to the substitute instead; so many containers gained by the write to the substitute.
+    Modify { rule: u8, substitute: u8, gained: u8 },
     /// The rule is loaded under this number.
     Rule(u8),
     /// Nothing changed.
@@ -75,15 +79,23 @@ pub enum Answer {
 impl Answer {
     /// An answer from its code; `None` where the number is no code.
     pub fn from_code(code: u32) -> Option<Answer> {
-        let [word, number, substitute, top] = code.to_le_bytes();
-        let single = substitute == 0 && top == 0;
+        let [word, number, substitute, gained] = code.to_le_bytes();
+        let single = substitute == 0 && gained == 0;
         match word {
-            0 if code == 0 => Some(Answer::Allow),
+            0 if number == 0 && substitute == 0 && gained <= CONTAINERS => Some(Answer::Allow { gained }),
             1 if single => Some(Answer::Inhibit(number)),
-            2 if top == 0 => Some(Answer::Modify { rule: number, substitute }),
+            2 if gained <= CONTAINERS => Some(Answer::Modify { rule: number, substitute, gained }),
             3 if single => Some(Answer::Rule(number)),
             4 if single => Some(Answer::Refused(Refusal(number))),
             _ => None,
+        }
+    }
+
+    /// How many containers gained: 0 for an answer that makes no call.
+    pub fn gained(&self) -> u8 {
+        match *self {
+            Answer::Allow { gained } | Answer::Modify { gained, .. } => gained,
+            Answer::Inhibit(_) | Answer::Rule(_) | Answer::Refused(_) => 0,
         }
     }
 

@@ -17,9 +17,9 @@ fn cases() -> Vec<PathBuf> {
 
 fn line(answer: Answer) -> String {
     match answer {
-        Answer::Allow => "allow\n".into(),
+        Answer::Allow { gained } => format!("allow {gained}\n"),
         Answer::Inhibit(rule) => format!("inhibit {rule}\n"),
-        Answer::Modify { rule, substitute } => format!("modify {rule} {substitute}\n"),
+        Answer::Modify { rule, substitute, gained } => format!("modify {rule} {substitute} {gained}\n"),
         Answer::Rule(number) => format!("rule {number}\n"),
         Answer::Refused(Refusal(number)) => format!("refused {number}\n"),
     }
@@ -138,7 +138,7 @@ fn the_number_tells_what_was_missing() {
     let mut m = Monitor::new();
     let call = |kind, a, b, c| Call { kind, process: 0, a, b, c };
     let made = [call(1, 0, 0, 0), call(3, 5, 0, 24), call(5, 1, 1, 0)];
-    assert!(made.iter().all(|&q| m.call(q) == Answer::Allow), "process 0, file 24 as descriptor 0, device 1 as descriptor 1");
+    assert!(made.iter().all(|&q| m.call(q) == STILL), "process 0, file 24 as descriptor 0, device 1 as descriptor 1");
     let closed = (6..=12).map(|kind| (call(kind, 3, if kind == 6 { 4 } else { 0 }, 0), Refusal::DESCRIPTOR_CLOSED));
     let unbound = [2, 14, 15, 16].map(|kind| (call(kind, 6, if kind == 14 { 0 } else { 7 }, 0), Refusal::NAME_UNBOUND));
     let others = [
@@ -162,6 +162,9 @@ fn the_number_tells_what_was_missing() {
     assert!(m == before, "nothing changed");
 }
 
+/// Allowed, and no container gained.
+const STILL: Answer = Answer::Allow { gained: 0 };
+
 /// A call of process 0.
 fn call(kind: u8, a: u8, b: u8) -> Call {
     Call { kind, process: 0, a, b, c: 0 }
@@ -170,15 +173,17 @@ fn call(kind: u8, a: u8, b: u8) -> Call {
 /// Process 0 with the file 24 as descriptor 0.
 fn with_a_file() -> Monitor {
     let mut m = Monitor::new();
-    assert_eq!(m.call(call(1, 0, 0)), Answer::Allow);
-    assert_eq!(m.call(Call { c: 24, ..call(3, 5, 0) }), Answer::Allow);
+    assert_eq!(m.call(call(1, 0, 0)), STILL);
+    assert_eq!(m.call(Call { c: 24, ..call(3, 5, 0) }), STILL);
     m
 }
 
-/// Whether an item that comes to one container comes to another too.
+/// Whether an item that comes to one container comes to another too. Both lack it, and no other is linked.
 fn arrives(m: &mut Monitor, item: u8, from: u8, to: u8) -> bool {
-    assert_eq!(m.call(call(19, from, item)), Answer::Allow, "a label");
-    m.items(to).expect("a container") >> item & 1 == 1
+    let answer = m.call(call(19, from, item));
+    let arrived = m.items(to).expect("a container") >> item & 1 == 1;
+    assert_eq!(answer, Answer::Allow { gained: 1 + arrived as u8 }, "a label");
+    arrived
 }
 
 #[test]
@@ -186,7 +191,7 @@ fn mapped_twice_and_unmapped_once() {
     let refused = Answer::Refused(Refusal::NO_LINK);
     let mut m = with_a_file();
     for kind in [11, 11, 12, 12] {
-        assert_eq!(m.call(call(kind, 0, 0)), Answer::Allow, "a mapping");
+        assert_eq!(m.call(call(kind, 0, 0)), STILL, "a mapping");
     }
     // After each unmap: whether items still come from the file to the process, and from the process to the file.
     let unmaps = [
@@ -196,14 +201,14 @@ fn mapped_twice_and_unmapped_once() {
         (MAPPED_READ, false, false),
     ];
     for (item, (sort, to_process, to_file)) in (1..).zip(unmaps) {
-        assert_eq!(m.call(call(13, 24, sort)), Answer::Allow, "unmap {item}");
+        assert_eq!(m.call(call(13, 24, sort)), STILL, "unmap {item}");
         assert_eq!(arrives(&mut m, item, 24, 8), to_process, "unmap {item}: to the process");
         assert_eq!(arrives(&mut m, 10 + item, 8, 24), to_file, "unmap {item}: to the file");
     }
     assert_eq!(m.call(call(13, 24, MAPPED_READ)), refused);
     assert_eq!(m.call(call(13, 24, MAPPED_BOTH)), refused);
     // A mapping both ways is none for reading.
-    assert_eq!(m.call(call(12, 0, 0)), Answer::Allow);
+    assert_eq!(m.call(call(12, 0, 0)), Answer::Allow { gained: 2 });
     assert_eq!(m.call(call(13, 24, MAPPED_READ)), refused);
     assert!(arrives(&mut m, 21, 24, 8) && arrives(&mut m, 22, 8, 24), "a refused unmap ends nothing");
 }
@@ -214,33 +219,101 @@ fn counts_end_at_255() {
         let mut m = with_a_file();
         let filled = |m: &mut Monitor, process, more| {
             let q = Call { process, ..call(kind, 0, 0) };
-            assert!((0..more).all(|_| m.call(q) == Answer::Allow), "{more} mappings of kind {kind}");
+            assert!((0..more).all(|_| m.call(q) == STILL), "{more} mappings of kind {kind}");
             let before = m.clone();
             assert_eq!(m.call(q), Answer::Refused(Refusal::COUNT_FULL));
             assert_eq!(m.on_call(q), Answer::Refused(Refusal::COUNT_FULL));
             assert!(*m == before, "nothing changed");
         };
         filled(&mut m, 0, 255);
-        assert_eq!(m.call(call(17, 1, 0)), Answer::Allow, "a fork");
+        assert_eq!(m.call(call(17, 1, 0)), STILL, "a fork");
         filled(&mut m, 1, 0);
         assert_eq!(m.call(call(13, 24, other)), Answer::Refused(Refusal::NO_LINK));
-        assert_eq!(m.call(call(13, 24, sort)), Answer::Allow);
+        assert_eq!(m.call(call(13, 24, sort)), STILL);
         filled(&mut m, 0, 1);
-        assert!((0..255).all(|_| m.call(call(13, 24, sort)) == Answer::Allow), "255 unmaps");
+        assert!((0..255).all(|_| m.call(call(13, 24, sort)) == STILL), "255 unmaps");
         assert_eq!(m.call(call(13, 24, sort)), Answer::Refused(Refusal::NO_LINK));
         filled(&mut m, 1, 0);
         let child = Call { process: 1, ..call(18, 0, 0) };
-        assert_eq!(m.call(child), Answer::Allow, "the child's exit");
-        assert_eq!(m.call(call(17, 1, 0)), Answer::Allow, "a fork after it");
+        assert_eq!(m.call(child), STILL, "the child's exit");
+        assert_eq!(m.call(call(17, 1, 0)), STILL, "a fork after it");
         filled(&mut m, 1, 255);
     }
+}
+
+/// The items of every container.
+fn all_items(m: &Monitor) -> Vec<u64> {
+    (0..64).map(|c| m.items(c).expect("a container")).collect()
+}
+
+#[test]
+fn gained_is_what_the_items_say() {
+    let mut most = 0;
+    for path in cases() {
+        let log = fs::read(&path).expect("a log");
+        let (mut m, mut at) = (Monitor::new(), 0);
+        let mut before = all_items(&m);
+        while at < log.len() {
+            let end = next(&log, at);
+            let answer = m.answer(&log[at..end]);
+            let after = all_items(&m);
+            let gained = before.iter().zip(&after).filter(|(old, new)| *new & !*old != 0).count();
+            assert_eq!(usize::from(answer.gained()), gained, "{} at {at}: {answer:?}", path.display());
+            most = most.max(gained);
+            (before, at) = (after, end);
+        }
+    }
+    assert!(most > 2, "some calls reach many containers");
+}
+
+#[test]
+fn the_answer_tells_how_many_gained() {
+    let mut m = with_a_file();
+    let told = |m: &mut Monitor, q: Call, gained: u8| {
+        let mut copy = m.clone();
+        let answer = m.call(q);
+        assert_eq!(answer, Answer::Allow { gained }, "{q:?}");
+        assert_eq!((copy.on_call(q), answer.gained()), (answer, gained), "{q:?} by the hook");
+    };
+    told(&mut m, call(17, 1, 0), 0); // a child of a parent that holds nothing
+    told(&mut m, call(19, 24, 1), 1);
+    told(&mut m, call(19, 24, 1), 0); // what it holds already
+    told(&mut m, call(19, 8, 2), 1);
+    told(&mut m, call(12, 0, 0), 2); // the process and the file, once each
+    told(&mut m, call(12, 0, 0), 0);
+    told(&mut m, call(19, 8, 3), 2); // and what the link leads to
+    told(&mut m, Call { process: 1, ..call(8, 0, 0) }, 1); // three items, one container
+    told(&mut m, call(17, 2, 0), 1);
+    told(&mut m, call(10, 0, 0), 0); // a truncate gives nothing
+    told(&mut m, Call { process: 1, ..call(18, 0, 0) }, 0);
+    // Process 3 reads device 1 by a mapping, so a write to the device would reach both. Item 1 may not be there: device 2 alone gains.
+    let reader = |q| Call { process: 3, ..q };
+    for q in [call(5, 1, 1), reader(call(1, 0, 0)), reader(call(5, 1, 1)), reader(call(11, 1, 0))] {
+        told(&mut m, q, 0);
+    }
+    let mut unruled = m.clone();
+    told(&mut unruled, call(9, 1, 0), 2);
+    let loaded = m.answer(&[0x11, 0, 11, 1, 0, 0, 0, 0, 0, 0, 0, 2, 1, 2]);
+    let written = m.call(call(9, 1, 0));
+    assert_eq!(written, Answer::Modify { rule: 0, substitute: 2, gained: 1 });
+    assert_eq!((written.gained(), m.call(call(9, 1, 0)).gained()), (1, 0), "the second time it holds them");
+    let others = [loaded, m.call(call(19, 1, 1)), m.call(call(9, 9, 0))];
+    assert_eq!(others, [Answer::Rule(0), Answer::Inhibit(0), Answer::Refused(Refusal::DESCRIPTOR_CLOSED)]);
+    assert!(others.iter().all(|answer| answer.gained() == 0), "no call is made");
 }
 
 #[test]
 fn no_other_codes() {
     assert_eq!(Answer::from_code(5), None);
     assert_eq!(Answer::from_code(1 << 16 | 1), None);
-    assert_eq!(Answer::from_code(3 << 16 | 7 << 8 | 2), Some(Answer::Modify { rule: 7, substitute: 3 }));
+    let modify = Answer::Modify { rule: 7, substitute: 3, gained: 64 };
+    assert_eq!(Answer::from_code(64 << 24 | 3 << 16 | 7 << 8 | 2), Some(modify));
+    assert_eq!(Answer::from_code(0x0103_0002), Some(Answer::Modify { rule: 0, substitute: 3, gained: 1 }));
+    assert_eq!(Answer::from_code(0x0300_0000), Some(Answer::Allow { gained: 3 }));
+    assert_eq!(Answer::from_code(64 << 24), Some(Answer::Allow { gained: 64 }));
+    for code in [65 << 24, 65 << 24 | 2, 1 << 8, 1 << 16, 1 << 24 | 1, 1 << 24 | 3, 1 << 24 | 4] {
+        assert_eq!(Answer::from_code(code), None, "{code:x}");
+    }
 }
 
 /// Prints the layout for tests/embed to compare: `cargo test -- --nocapture layout`.

@@ -1,24 +1,28 @@
 //! Effects made on the state: document 01, the table of calls; mappings counted by document 02, Paper 4.
 
-use super::{Change, Effect, Flow, State, UNBOUND, UNMAPPED};
+use super::{Change, Flow, State, UNBOUND, UNMAPPED};
 use crate::numbers::{Container, Descriptor, Name, Process, Sort};
 use crate::sets::Set;
 
 impl State {
-    pub fn apply(&mut self, effect: &Effect) {
-        self.give(&effect.flow);
-        self.change(effect.change);
+    /// Gives what flows, and answers how many containers gain an item (document 02, Paper 5). None gains by both gifts:
+    /// what is in the reach of the process and of the container holds what both hold.
+    pub fn give(&mut self, flow: &Flow) -> u8 {
+        let [first, second] = flow.0;
+        self.add(first.items, first.to) + self.add(second.items, second.to)
     }
 
-    pub fn give(&mut self, flow: &Flow) {
-        for gift in &flow.0 {
-            for n in gift.to.members() {
-                self.items[Container::member(n).index()] |= gift.items;
-            }
+    /// Adds the items to each container, and answers how many these are.
+    fn add(&mut self, items: Set, to: Set) -> u8 {
+        let mut count = 0;
+        for n in to.members() {
+            self.items[Container::member(n).index()] |= items;
+            count += 1;
         }
+        count
     }
 
-    fn change(&mut self, change: Change) {
+    pub fn change(&mut self, change: Change) {
         match change {
             Change::Nothing => {}
             Change::Start(process) => self.use_once(process.container()),

@@ -7,10 +7,10 @@ use Rattle.bench_calls.proofs.run.Statement.{statement}
 use Rattle.bench_calls.proofs.run.Tie as tie
 
 abbrev Inv-loop : tie.InvT-loop
-Inv-loop calls words₀ descriptors₀ names₀ i₀ i-end words descriptors names i = (i ≤ i-end) × (i-end ≡ length calls / 5)
+Inv-loop calls gained₀ words₀ descriptors₀ names₀ i₀ i-end gained words descriptors names i = (i ≤ i-end) × (i-end ≡ length calls / 5)
 
 abbrev μ-loop : tie.MeasureT-loop
-μ-loop calls words₀ descriptors₀ names₀ i₀ i-end words descriptors names i = i-end - i
+μ-loop calls gained₀ words₀ descriptors₀ names₀ i₀ i-end gained words descriptors names i = i-end - i
 
 pub run-spec : {M : Type 1} → statement M
 run-spec =
@@ -30,8 +30,10 @@ run-spec =
     (λ c. search needs)
     (λ c. search needs)
     (λ c κs. search needs)
+    (λ c. search needs)
     (λ c κs. search needs)
     (λ c. search needs)
     (λ c. search needs)
     (λ c. search needs)
+    (λ c κs. search needs)
     (λ c. search needs))

@@ -22,7 +22,7 @@ loop-holds c = (search needs, search needs, none-yet _ _ (c .new .ensures))
 
 loop-again : tie.Need-loop-again Inv-loop μ-loop
 loop-again c =
-    let c3 = c .before .before .before in
+    let c3 = c .before .before in
     let c10 = c3 .before .before .before .before .before .before .before in
     (search needs, search needs, one-more _ _ _ _ (c10 .loop .inv .2) (ap (λ (x : Worked). x .maps) (c3 .call .ensures .works)))
 
@@ -48,8 +48,6 @@ run-spec =
     (λ c. search needs)
     (λ c. search needs)
     (λ c κs. search needs)
-    (λ c κs. search needs)
-    (λ c. search needs)
     (λ c κs. search needs)
     (λ c. search needs)
     (λ c. search needs)

@@ -19,9 +19,9 @@ abbrev μ-loop : tie.MeasureT-loop
 
 loop-again : tie.Need-loop-again Inv-loop μ-loop
 loop-again c =
-    let turn = c .before .before .before .before .before .before .before .before in
+    let turn = c .before .before .before .before .before .before .before in
     let start = turn .before .before in
-    (run-more (start .loop .inv .0) (turn .before .loop-test .taken) _ (turn .end-after .ensures) _ (c .before .answer-in .ensures) _ (c .code .ensures), start .loop .inv .1)
+    (run-more (start .loop .inv .0) (turn .before .loop-test .taken) _ (turn .end-after .ensures) _ (c .answer-code .ensures .promised) _ (c .answer-code .ensures .code), start .loop .inv .1)
 
 pub run-in-spec : {M : Type 1} → statement M
 run-in-spec =
@@ -32,7 +32,7 @@ run-in-spec =
     (λ c. (run-start _ _ _ (leb-true _ _ (sym (c .before .has-room .ensures) ∙ not-false _ (c .if1 .left))), search needs))
     (λ c κs. search needs)
     (λ c. omega (arith, end-past)) (λ c. omega (arith, end-past)) (λ c. omega (arith, end-within))
-    (λ c κs. search needs) (λ c κs. search needs)
+    (λ c κs. search needs)
     (λ c. omega (arith, run-room)) (λ c. omega (arith, run-room)) (λ c. omega (arith, run-room))
     (λ c. omega (arith, end-past, end-within))
     loop-again

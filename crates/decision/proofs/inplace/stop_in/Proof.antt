@@ -4,8 +4,7 @@ use mathlib.Core.Path.{_≡_, sym, _∙_}
 use lib.ListN.{length}
 use Rattle.tracker.proofs.Facts.{process-lt}
 use Rattle.decision.specs.View.{monitor}
-use Rattle.decision.specs.Answers.{stoppedBy}
-use Rattle.decision.proofs.StopLaws.{stop-no-write, stop-not-used, stop-broken, stop-diverts}
+use Rattle.decision.proofs.StopLaws.{inhibited-is, stop-no-write, stop-not-used, stop-broken, stop-diverts}
 use borrow.Author.Needs.{needs}
 use Rattle.decision.proofs.inplace.stop_in.Statement.{statement}
 use Rattle.decision.proofs.inplace.stop_in.Tie as tie
@@ -14,21 +13,21 @@ long : (c : tie.After-lengths) → length (c .before .before .before .before .ar
 long c = search needs
 
 returns : tie.Need-returns
-unfolding stoppedBy
 returns c =
-    let c2 = c .before .before in
+    let t = c .before in
+    let c2 = t .before .before in
     let c7 = c2 .before .before .before .before .before in
     let a = c7 .args in
-    λ x e. stop-no-write (monitor (a .words .now) (a .descriptors .now) (a .names .now) (a .sets .now) (a .fields .now)) (a .q) x e (a .k) _ (c2 .action .ensures) (c .if1 .taken)
+    λ x e. rw (inhibited-is _ _ (c .inhibited .ensures)) (stop-no-write (monitor (a .words .now) (a .descriptors .now) (a .names .now) (a .sets .now) (a .fields .now)) (a .q) x e (a .k) _ (c2 .action .ensures) (t .if1 .taken))
 
 returns-2 : tie.Need-returns-2
-unfolding stoppedBy
 returns-2 c =
-    let c1 = c .before in
+    let t = c .before in
+    let c1 = t .before in
     let c3 = c1 .before .before in
     let c11 = c3 .before .before .before .before .before .before .before .before in
     let a = c11 .args in
-    λ x e. stop-not-used (monitor (a .words .now) (a .descriptors .now) (a .names .now) (a .sets .now) (a .fields .now)) (a .q) x e (a .k) _ (c3 .substitute .ensures) _ (c1 .in-use .ensures) (c .if2 .taken)
+    λ x e. rw (inhibited-is _ _ (c .inhibited2 .ensures)) (stop-not-used (monitor (a .words .now) (a .descriptors .now) (a .names .now) (a .sets .now) (a .fields .now)) (a .q) x e (a .k) _ (c3 .substitute .ensures) _ (c1 .in-use .ensures) (t .if2 .taken))
 
 add-own : tie.Need-add-own
 add-own c =
@@ -37,9 +36,9 @@ add-own c =
     omega (arith, process-lt (c12 .pre .1))
 
 returns-3 : tie.Need-returns-3
-unfolding stoppedBy
 returns-3 c =
-    let c1 = c .before in
+    let t = c .before in
+    let c1 = t .before in
     let c2 = c1 .before in
     let c4 = c2 .before .before in
     let c5 = c4 .before in
@@ -52,7 +51,7 @@ returns-3 c =
     let c17 = c16 .before in
     let c21 = c17 .before .before .before .before in
     let a = c21 .args in
-    λ x e. stop-broken (monitor (a .words .now) (a .descriptors .now) (a .names .now) (a .sets .now) (a .fields .now)) (a .q) x e (a .k) _ (c13 .substitute .ensures) _ (c11 .in-use .ensures) _ (c16 .action .ensures) (c14 .if1 .left) (c10 .if2 .left) (long c17) _ (c7 .items .ensures) _ (c5 .reach .ensures (a .descriptors .now) (a .names .now)) _ (c4 .giving .ensures) _ (c2 .judge .ensures) (λ d. c .if3 .taken (d ∙ sym (c1 .count .ensures)))
+    λ x e. rw (inhibited-is _ _ (c .inhibited3 .ensures)) (stop-broken (monitor (a .words .now) (a .descriptors .now) (a .names .now) (a .sets .now) (a .fields .now)) (a .q) x e (a .k) _ (c13 .substitute .ensures) _ (c11 .in-use .ensures) _ (c16 .action .ensures) (c14 .if1 .left) (c10 .if2 .left) (long c17) _ (c7 .items .ensures) _ (c5 .reach .ensures (a .descriptors .now) (a .names .now)) _ (c4 .giving .ensures) _ (c2 .judge .ensures) (λ d. t .if3 .taken (d ∙ sym (c1 .count .ensures))))
 
 returns-4 : tie.Need-returns-4
 returns-4 c =
@@ -70,14 +69,14 @@ returns-4 c =
     let c19 = c18 .before in
     let c23 = c19 .before .before .before .before in
     let a = c23 .args in
-    λ x e. stop-diverts (monitor (a .words .now) (a .descriptors .now) (a .names .now) (a .sets .now) (a .fields .now)) (a .q) x e (a .k) _ (c15 .substitute .ensures) _ (c13 .in-use .ensures) _ (c18 .action .ensures) (c16 .if1 .left) (c12 .if2 .left) (long c19) _ (c9 .items .ensures) _ (c7 .reach .ensures (a .descriptors .now) (a .names .now)) _ (c6 .giving .ensures) _ (c4 .judge .ensures) (c2 .if3 .left ∙ c3 .count .ensures) _ (c .make-items .ensures (a .descriptors .now) (a .names .now))
+    λ x e. stop-diverts (monitor (a .words .now) (a .descriptors .now) (a .names .now) (a .sets .now) (a .fields .now)) (a .q) x e (a .k) _ (c15 .substitute .ensures) _ (c13 .in-use .ensures) _ (c18 .action .ensures) (c16 .if1 .left) (c12 .if2 .left) (long c19) _ (c9 .items .ensures) _ (c7 .reach .ensures (a .descriptors .now) (a .names .now)) _ (c6 .giving .ensures) _ (c4 .judge .ensures) (c2 .if3 .left ∙ c3 .count .ensures) _ _ (c .make-items .ensures)
 
 pub stop-in-spec : {M : Type 1} → statement M
 stop-in-spec =
     tie.close
     (tie.spec (λ c κs. search needs)
     (λ c κs. let c4 = c .before .before .before .before in c4 .pre .0)
-    returns
+    (λ c κs. search needs) returns
     (λ c κs. let c7 = c .before .before .before .before .before .before .before in c7 .pre .0)
-    (λ c κs. search needs) returns-2 add-own (λ c κs. search needs) (λ c κs. search needs) (λ c κs. search needs) (λ c κs. search needs) (λ c κs. search needs)
-    returns-3 (λ c κs. search needs) returns-4)
+    (λ c κs. search needs) (λ c κs. search needs) returns-2 add-own (λ c κs. search needs) (λ c κs. search needs) (λ c κs. search needs) (λ c κs. search needs) (λ c κs. search needs)
+    (λ c κs. search needs) returns-3 (λ c κs. search needs) returns-4)

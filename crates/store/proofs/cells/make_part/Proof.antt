@@ -1,11 +1,18 @@
 -- `make_part` lends the items alone.
+use Rattle.store.specs.Maps.{part}
 use Rattle.store.proofs.Words.{items-made}
 use borrow.Author.Needs.{needs}
 use Rattle.store.proofs.cells.make_part.Statement.{statement}
 use Rattle.store.proofs.cells.make_part.Tie as tie
 
+returns : tie.Need-returns
+unfolding part
+returns c =
+    let made = c .before .before in
+    let start = made .before .before .before in
+    record { made = λ d n. items-made _ _ d n (start .pre) _ (made .make .ensures .0); told = made .make .ensures .1 }
+
 pub make-part-spec : {M : Type 1} → statement M
 make-part-spec =
     tie.close
-    (tie.spec (λ c. search needs) (λ c. search needs) (λ c. search needs) (λ c κs. search needs) (λ c. search needs)
-    (λ c. let c2 = c .before .before in let c5 = c2 .before .before .before in λ d n. items-made _ _ d n (c5 .pre) _ (c2 .make .ensures)))
+    (tie.spec (λ c. search needs) (λ c. search needs) (λ c. search needs) (λ c κs. search needs) (λ c. search needs) returns)
