@@ -9,6 +9,7 @@ costs most is reported.
 """
 
 import functools
+from itertools import zip_longest
 from pathlib import Path
 from typing import Dict, List, NamedTuple, Sequence, Tuple
 
@@ -16,7 +17,7 @@ from bench.counting import INPUT_BUFFER, BadRun, Report, instructions, peak_of, 
 from bench.logcases import CASES
 from bench.states import KIND_NAMES, Case
 from model import ROOT
-from model.limits import CONTAINERS, FILES, Kind, Refusal
+from model.limits import CONTAINERS, FILES, Refusal
 from model.records import Call, encode
 from model.tracker import State, Tracker
 
@@ -29,21 +30,7 @@ MOST_STACK = 16 * 1024  # in place
 MOST_COPIED = 24 * 1024  # by value: the tracker is copied
 
 UNKNOWN = Call(0)
-
-
-def widening() -> List[Call]:
-    """Calls that leave a fresh tracker fresh, and the set that bench_calls prints last wide.
-
-    With two high containers in it, it has as many digits as any larger set: 20.
-    """
-    calls = [Call(Kind.START)]
-    for file in (FILES[-4], FILES[-1]):
-        calls += [Call(Kind.CREATE, c=file), Call(Kind.LABEL, 0, file)]
-        calls += [Call(Kind.UNLINK), Call(Kind.CLOSE)]
-    return [*calls, Call(Kind.EXIT)]
-
-
-WIDENING = widening()
+WIDE = 1 << FILES[-4] | 1 << FILES[-1]  # bench_calls adds these to the last set: 20 digits
 
 
 def input_of(calls: Sequence[Call]) -> bytes:
@@ -65,18 +52,18 @@ def gained_by(tracker: Tracker, call: Call) -> int:
 
 
 @functools.lru_cache(maxsize=None)
-def model_after(calls: Tuple[Call, ...]) -> Tuple[State, int]:
-    """The state after calls, and the set of the containers that gained by any of them."""
-    tracker, gained = Tracker(), 0
+def model_after(calls: Tuple[Call, ...]) -> State:
+    """The state after calls."""
+    tracker = Tracker()
     for call in calls:
-        gained |= gained_by(tracker, call)
-    return tracker.state, gained
+        gained_by(tracker, call)
+    return tracker.state
 
 
 def gain_of(case: Case) -> int:
     """The set of the containers that gain by the measured call."""
     tracker = Tracker()
-    tracker.state, _ = model_after(tuple(case.before))
+    tracker.state = model_after(tuple(case.before))
     return gained_by(tracker, case.call)
 
 
@@ -85,23 +72,18 @@ def gain_of(case: Case) -> int:
 
 def check_lines(lines: List[str], wanted: List[str]) -> None:
     """The first lines written must be the wanted ones."""
-    for place, (line, meant) in enumerate(zip(lines, wanted), 1):
+    for place, (line, meant) in enumerate(zip_longest(lines[: len(wanted)], wanted), 1):
         if line != meant:
             raise BadRun(f"line {place} is '{line}', not '{meant}'")
 
 
 def in_place(case: Case) -> int:
     """The instructions of a call above those of a call of unknown kind."""
-    before = [*WIDENING, *case.before]
-    made = len(before) * ["0"]
-    _, gained = model_after(tuple(before))
-    last = [str(gained | gain_of(case)), str(gained)]
-    if len(last[0]) != len(last[1]):
-        raise BadRun(f"{case.call} makes the last line longer: no difference to take")
-    with_call, lines = instructions(IN_PLACE, input_of([*before, case.call]))
-    check_lines(lines, [*made, "0", last[0], ""])
-    with_unknown, lines = instructions(IN_PLACE, input_of([*before, UNKNOWN]))
-    check_lines(lines, [*made, str(int(Refusal.UNKNOWN_KIND)), last[1], ""])
+    made = len(case.before) * ["0"]
+    with_call, lines = instructions(IN_PLACE, input_of([*case.before, case.call]))
+    check_lines(lines, [*made, "0", str(gain_of(case) | WIDE), ""])
+    with_unknown, lines = instructions(IN_PLACE, input_of([*case.before, UNKNOWN]))
+    check_lines(lines, [*made, str(int(Refusal.UNKNOWN_KIND)), str(WIDE), ""])
     return with_call - with_unknown
 
 

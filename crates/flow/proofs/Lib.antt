@@ -25,6 +25,7 @@ pub mod Fork
 pub mod GainLaws
 pub mod Gaining
 pub mod Filling
+pub mod Renaming
 pub mod Runs
 pub mod AtOnce
 pub mod Consequences

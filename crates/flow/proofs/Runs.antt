@@ -1,61 +1,76 @@
 -- The starred runs have their stated outcomes, refusals tell what was missing, holders come in rising number, map both gives both ways and
 -- its two forms differ in a torn state, mappings are counted, calls tell how many gained, and contents do move: by computation.
-use mathlib.Core.Path.{refl}
+use mathlib.Core.Path.{_≡_, refl, ap, _∙_}
+use mathlib.Core.List.{map}
+use lib.ListN.{length}
 use Rattle.flow.specs.Gained.{hasMore, gained}
 use Rattle.sets.specs.Sets.{has, members, only, _∪_, _∩_, bit, thoseFrom, those, risingFrom, rising, without}
 use Rattle.flow.specs.Lists.{tableFrom, table, someBelow, isIn, _⇒_, firstThat, isNone}
-use Rattle.flow.specs.Box.{isDevice, isProcess, isFile, fresh, itemsOf, rowOf, mappings, mappedIn, feedersOf, feeds, descriptor, name, isTarget, holds, isLive, isOpen, isBound, noMappings, noTables}
+use Rattle.flow.specs.Box.{State, isDevice, isProcess, isFile, fresh, itemsOf, rowOf, mappings, mappedIn, feedersOf, feeds, descriptor, name, isTarget, holds, isLive, isOpen, isBound, noMappings, noTables}
 use Rattle.flow.specs.Links.{linked, meets, through, throughEach, closure, reach, given, isFed, mapped, used}
 use Rattle.flow.specs.MapBoth.{inSequence, atOnce}
-use Rattle.flow.specs.Calls.{kindNumber, isKind, withLive, withDescriptors, withNames, withRow, withRows, raised, lowered, sortOf, putBlock, block, tablesBy, flowBy, change, moved, ended, itemsAfter, after}
+use Rattle.flow.specs.Calls.{rename, Call, kindNumber, isKind, withLive, withDescriptors, withNames, withRow, withRows, raised, lowered, sortOf, putBlock, block, tablesBy, flowBy, change, moved, ended, itemsAfter, after}
 use Rattle.flow.specs.Rules.{breaks, broken, firstBroken, lowestBroken, forbids}
 use Rattle.flow.specs.Records.{byteAt, tagOf, statedLength, recordLength, valueOf, cutShort, knownTag, tagLength, wrongLength, kinds, kindOf, callBy, callFrom, callIn, conditionOf, numberFrom, setIn, ruleWith, ruleIn, frameTests, contentOf, readingBy, reading, callRead, callOf, recordsIn, recordsOf}
 use Rattle.flow.specs.Refusals.{inRange, ranges, fieldsFit, dead, taken, needOf, missing, sameDescriptors, noFile, full, callTests, itemsFit, substituteFits, sameItems, fieldTests, ruleTests}
-use Rattle.flow.specs.Verdicts.{diversion, mayDivert, breaksNone, stopped, verdictBy, verdictAt, verdict, outcomeOfCall, outcomeOfRule, outcomeOf as outcomeRead, outcome, answerOf, answer, withRule, stateAfter, next, answerAll, runLog}
+use Rattle.flow.specs.Verdicts.{allows, diversion, mayDivert, breaksNone, stopped, verdictBy, verdictAt, verdict, outcomeOfCall, outcomeOfRule, outcomeOf as outcomeRead, outcome, answerOf, answer, withRule, stateAfter, next, answerAll, runLog}
 use Rattle.flow.specs.Queries.{holders, holdersRefusal, replyBy, holdersQuery, sliceBy, holdersSlice}
 use Rattle.flow.specs.Contents.{flowed, changed, contentsAfter, linkedTo, stepContents, stepState, stateAt, runAt, labelOf, itemLabelled}
-use Rattle.flow.specs.Runs.{plain, outcomeBy, call, shared, filed, renamed, spare, thirtyTwo, allowed, starred, Starred, further, Further, lacking, Lacking, total, remembered, copying, carried, chained, unmappedOnce, Moves, repliedIn, replied, falling, asked, HoldersAsked, twoSides, mappingBoth, MappingBoth, nested, twoSorts, mappedTwice, MappedTwice, Filled, runB, gaining, heard, spreading, Spreading}
+use Rattle.flow.specs.Runs.{plain, outcomeBy, outcomeOf, call, shared, filed, renamed, spare, thirtyTwo, allowed, starred, Starred, further, Further, lacking, Lacking, total, remembered, copying, carried, chained, unmappedOnce, Moves, repliedIn, replied, falling, asked, HoldersAsked, twoSides, mappingBoth, MappingBoth, nested, twoSorts, mappedTwice, MappedTwice, Filled, runB, gaining, heard, spreading, Spreading}
 use Rattle.flow.proofs.Filling.{Opened, filled}
+use Rattle.flow.proofs.Renaming.{renamed-itself}
 use Rattle.flow.specs.AtOnce.{movedAtOnce, afterAtOnce, verdictAtOnce, outcomeOfCallAtOnce, outcomeOfAtOnce, outcomeAtOnce, stateAfterAtOnce, nextAtOnce, torn, Torn, FormsDiffer}
 
--- in two parts, each within what one proof may take; together, since each run would unfold the same definitions
-first-runs : Starred × Further × Lacking × HoldersAsked × MappingBoth × FormsDiffer × Torn × Moves
-unfolding has only _∪_ _∩_ bit thoseFrom those without tableFrom table someBelow isIn firstThat _⇒_ isDevice isProcess isFile fresh itemsOf rowOf mappings mappedIn feedersOf feeds descriptor name isTarget linked meets through throughEach closure reach given mapped used kindNumber withLive withDescriptors withNames withRow withRows raised lowered sortOf putBlock block isFed tablesBy flowBy change moved ended itemsAfter after holds breaks broken firstBroken lowestBroken forbids byteAt tagOf statedLength recordLength valueOf cutShort knownTag tagLength wrongLength kinds kindOf callBy callFrom callIn conditionOf numberFrom setIn ruleWith ruleIn frameTests contentOf readingBy reading callRead callOf recordsIn recordsOf inRange ranges fieldsFit isLive isOpen isBound dead taken needOf missing sameDescriptors noFile full callTests itemsFit substituteFits sameItems fieldTests ruleTests noMappings noTables isNone isKind diversion mayDivert breaksNone stopped verdictBy verdictAt verdict hasMore gained members outcomeOfCall outcomeOfRule outcomeRead outcome answerOf answer withRule stateAfter next answerAll runLog flowed changed contentsAfter linkedTo stepContents stepState stateAt runAt labelOf itemLabelled plain outcomeBy call shared filed renamed spare thirtyTwo allowed starred Starred total remembered copying carried chained unmappedOnce Moves further Further lacking Lacking repliedIn replied falling asked HoldersAsked holders holdersRefusal replyBy holdersQuery sliceBy holdersSlice risingFrom rising twoSides mappingBoth MappingBoth nested twoSorts mappedTwice MappedTwice Opened runB gaining heard spreading Spreading inSequence atOnce movedAtOnce afterAtOnce verdictAtOnce outcomeOfCallAtOnce outcomeOfAtOnce outcomeAtOnce stateAfterAtOnce nextAtOnce torn Torn FormsDiffer
-first-runs = ((refl, refl), refl, refl, refl, refl, (refl, refl, refl, refl), (λ rules. (refl, refl, refl)), (refl, refl, refl, refl, refl, refl, refl, refl, refl, refl, refl, refl))
+-- J: its last record meets the state of the others, in which it is allowed, and a name renamed to itself changes none. To compute both states and
+-- compare their items takes longer than all other runs.
+abbrev met : State
+met = runLog fresh filed .state
 
-later-runs : MappedTwice × Opened × Spreading
+abbrev itself : Call
+itself = record { kind = rename; process = 0; a = 5; b = 5; c = 0 }
+
+last-meets : runLog fresh renamed .state ≡ stateAfter met (outcome met (call rename 0 5 5 0))
+unfolding byteAt tagOf statedLength recordLength cutShort recordsIn recordsOf answerAll runLog call kindNumber filed renamed
+last-meets = refl
+
+abbrev Allowed : Type 0
+Allowed = (outcome met (call rename 0 5 5 0) ≡ allows (change (met .tables) itself) 0) × (length (met .items) ≡ 64)
+
+-- together, since each would unfold the same definitions
+all-runs : (map outcomeOf starred ≡ starred) × Allowed × Further × Lacking × HoldersAsked × MappingBoth × FormsDiffer × Torn × Moves × MappedTwice × Opened × Spreading
 unfolding has only _∪_ _∩_ bit thoseFrom those without tableFrom table someBelow isIn firstThat _⇒_ isDevice isProcess isFile fresh itemsOf rowOf mappings mappedIn feedersOf feeds descriptor name isTarget linked meets through throughEach closure reach given mapped used kindNumber withLive withDescriptors withNames withRow withRows raised lowered sortOf putBlock block isFed tablesBy flowBy change moved ended itemsAfter after holds breaks broken firstBroken lowestBroken forbids byteAt tagOf statedLength recordLength valueOf cutShort knownTag tagLength wrongLength kinds kindOf callBy callFrom callIn conditionOf numberFrom setIn ruleWith ruleIn frameTests contentOf readingBy reading callRead callOf recordsIn recordsOf inRange ranges fieldsFit isLive isOpen isBound dead taken needOf missing sameDescriptors noFile full callTests itemsFit substituteFits sameItems fieldTests ruleTests noMappings noTables isNone isKind diversion mayDivert breaksNone stopped verdictBy verdictAt verdict hasMore gained members outcomeOfCall outcomeOfRule outcomeRead outcome answerOf answer withRule stateAfter next answerAll runLog flowed changed contentsAfter linkedTo stepContents stepState stateAt runAt labelOf itemLabelled plain outcomeBy call shared filed renamed spare thirtyTwo allowed starred Starred total remembered copying carried chained unmappedOnce Moves further Further lacking Lacking repliedIn replied falling asked HoldersAsked holders holdersRefusal replyBy holdersQuery sliceBy holdersSlice risingFrom rising twoSides mappingBoth MappingBoth nested twoSorts mappedTwice MappedTwice Opened runB gaining heard spreading Spreading inSequence atOnce movedAtOnce afterAtOnce verdictAtOnce outcomeOfCallAtOnce outcomeOfAtOnce outcomeAtOnce stateAfterAtOnce nextAtOnce torn Torn FormsDiffer
-later-runs = (refl, (refl, refl, refl, refl, refl, refl, refl), refl)
+all-runs = (refl, (refl, refl), refl, refl, refl, refl, (refl, refl, refl, refl), (λ rules. (refl, refl, refl)), (refl, refl, refl, refl, refl, refl, refl, refl, refl, refl, refl, refl), refl, (refl, refl, refl, refl, refl, refl, refl), refl)
 
 pub starred-runs : Starred
-starred-runs = first-runs .0
+unfolding Starred stateAfter
+starred-runs = (all-runs .0, last-meets ∙ ap (stateAfter met) (all-runs .1 .0) ∙ renamed-itself met 0 5 0 (all-runs .1 .1))
 
 pub further-checks : Further
-further-checks = first-runs .1
+further-checks = all-runs .2
 
 pub lacking-told : Lacking
-lacking-told = first-runs .2
+lacking-told = all-runs .3
 
 pub holders-asked : HoldersAsked
-holders-asked = first-runs .3
+holders-asked = all-runs .4
 
 pub mapping-both : MappingBoth
-mapping-both = first-runs .4
+mapping-both = all-runs .5
 
 pub forms-differ : FormsDiffer
-forms-differ = first-runs .5
+forms-differ = all-runs .6
 
 pub torn-is : Torn
-torn-is = first-runs .6
+torn-is = all-runs .7
 
 pub contents-move : Moves
-contents-move = first-runs .7
+contents-move = all-runs .8
 
 pub mapped-twice : MappedTwice
-mapped-twice = later-runs .0
+mapped-twice = all-runs .9
 
 pub counts-filled : Filled
-counts-filled = filled (later-runs .1)
+counts-filled = filled (all-runs .10)
 
 pub spreading-told : Spreading
-spreading-told = later-runs .2
+spreading-told = all-runs .11
