@@ -366,8 +366,26 @@ pub fn answer_code(
 ) -> u32
     ensures { λ r. ⌜ Coded (AnswersRecord (monitorBefore words descriptors names sets fields) (now (bytes .entry))) r (monitorAfter words descriptors names sets fields) ⌝ }
 {
-    let answer = answer_in(words, descriptors, names, sets, fields, bytes);
-    code(answer)
+    let record = read(bytes);
+    match record {
+        Record::Unreadable(n) => code(Answer::Refused(n)),
+        Record::Call(kind, process, a, b, c) => {
+            let q = call(kind, process, a, b, c);
+            call_code(words, descriptors, names, sets, fields, q)
+        }
+        Record::Forbid(item, set, action, substitute) => {
+            let r = rule(FORBID_TAG, item, set, action, substitute);
+            code(load_in(words, sets, fields, r))
+        }
+        Record::Separate(item, other, action, substitute) => {
+            let r = rule(SEPARATE_TAG, item, other as u64, action, substitute);
+            code(load_in(words, sets, fields, r))
+        }
+        Record::Confine(item, set, action, substitute) => {
+            let r = rule(CONFINE_TAG, item, set, action, substitute);
+            code(load_in(words, sets, fields, r))
+        }
+    }
 }
 
 // Answers the records of a log in order. Each answer goes to the front of `codes` as a number.
