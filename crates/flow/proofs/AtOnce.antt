@@ -1,6 +1,5 @@
 -- Document 01's form of map both and the sequence: the same along every list of steps, and not in every state.
 use Prim.Native.Nat.{ℕ, zero, suc}
-use native.Mathlib.Omega.{arith}
 use mathlib.Core.Path.{_≡_, refl, sym, ap, _∙_}
 use mathlib.Core.Bool.{Bool, true, false, not, _&&_}
 use mathlib.Core.List.{List}
@@ -10,21 +9,17 @@ use Rattle.flow.specs.Box.{containerOf, Tables, State, descriptor}
 use Rattle.flow.specs.Links.{given, givenFrom, used}
 use Rattle.flow.specs.MapBoth.{inSequence}
 use Rattle.flow.specs.Calls.{mapBoth, Call, Flow, still, gift, arrival, exchange, copy, clear, tablesBy, flowBy, Change, change, moved, ended, itemsAfter, after}
-use Rattle.flow.specs.Rules.{lowestBroken}
 use Rattle.flow.specs.Records.{Reading, unreadable, aCall, aRule, reading, callOf}
 use Rattle.flow.specs.Refusals.{callTests}
 use Rattle.flow.specs.Verdicts.{Outcome, refuses, loads, allows, inhibits, modifies, verdictAt, verdict, outcomeOfCall, outcomeOf, outcome, stateAfter, next}
 use Rattle.flow.specs.Contents.{Step, entry, memory, stepState, stepAt, stateAt}
-use Rattle.flow.specs.AtOnce.{MapBothInSequence, movedAtOnce, afterAtOnce, verdictAtOnce, outcomeOfCallAtOnce, outcomeOfAtOnce, outcomeAtOnce, stateAfterAtOnce, nextAtOnce, stepStateAtOnce, stateAtOnce, FormsAgree, torn, Torn, NeverTorn}
-use Rattle.flow.specs.Kept.{Kept, EveryRecordKeeps}
-use Rattle.flow.proofs.Bools.{no-both}
+use Rattle.flow.specs.AtOnce.{MapBothInSequence, movedAtOnce, afterAtOnce, verdictAtOnce, outcomeOfCallAtOnce, outcomeOfAtOnce, outcomeAtOnce, stateAfterAtOnce, nextAtOnce, stepStateAtOnce, stateAtOnce, FormsAgree}
 use Rattle.flow.proofs.TableLaws.{table-length, is-table}
 use Rattle.flow.proofs.Moves.{Fit}
 use Rattle.flow.proofs.MapBoth.{as-at-once}
 use Rattle.flow.proofs.Accepted.{Accepted, accepted, fits-after}
 use Rattle.flow.proofs.Outcomes.{Sound}
-use Rattle.flow.proofs.Keeping.{Invariant, fed-bound, sound, state-kept, every-record-keeps}
-use Rattle.flow.proofs.Runs.{torn-is}
+use Rattle.flow.proofs.Keeping.{Invariant, fed-bound, sound, state-kept}
 
 -- ---- the sequence on whole states
 -- a gift that changes no table
@@ -110,10 +105,3 @@ unfolding FormsAgree
 forms-agree steps k =
     let kept = state-kept steps k in
     (state-same steps k, λ bytes. rw (state-same steps k) (outcome-same (stateAt steps k) kept bytes, next-same (stateAt steps k) kept bytes))
-
--- a torn state has a link that an item does not go along
-pub never-torn : NeverTorn
-unfolding NeverTorn Torn EveryRecordKeeps
-never-torn rules steps k e =
-    let kept : Kept (torn rules) = rw e at (every-record-keeps steps k) in
-    no-both (kept .along 24 9 1 (omega arith) (omega arith) (torn-is rules .0) (torn-is rules .1)) (torn-is rules .2)

@@ -1,5 +1,6 @@
 -- The starred runs have their stated outcomes, refusals tell what was missing, holders come in rising number, map both gives both ways and
 -- its two forms differ in a torn state, mappings are counted, calls tell how many gained, and contents do move: by computation.
+use native.Mathlib.Omega.{arith}
 use mathlib.Core.Path.{_≡_, refl, ap, _∙_}
 use mathlib.Core.List.{map}
 use lib.ListN.{length}
@@ -16,10 +17,13 @@ use Rattle.flow.specs.Refusals.{inRange, ranges, fieldsFit, dead, taken,
 use Rattle.flow.specs.Verdicts.{allows, diversion, mayDivert, breaksNone, stopped, verdictBy, verdictAt, verdict, outcomeOfCall, outcomeOfRule, outcomeOf as outcomeRead, outcome, answerOf, answer, withRule, stateAfter, next, answerAll, runLog}
 use Rattle.flow.specs.Queries.{holders, holdersRefusal, replyBy, holdersQuery, sliceBy, holdersSlice}
 use Rattle.flow.specs.Contents.{flowed, changed, contentsAfter, linkedTo, stepContents, stepState, stateAt, runAt, labelOf, itemLabelled}
-use Rattle.flow.specs.Runs.{plain, outcomeBy, outcomeOf, call, shared, filed, renamed, spare, thirtyTwo, allowed, starred, Starred, further, Further, lacking, Lacking, total, remembered, copying, carried, chained, unmappedOnce, Moves, repliedIn, replied, falling, asked, HoldersAsked, twoSides, mappingBoth, MappingBoth, nested, twoSorts, mappedTwice, MappedTwice, Filled, runB, gaining, heard, spreading, Spreading}
+use Rattle.flow.specs.Runs.{plain, outcomeOf, wordsOf, call, shared, filed, renamed, spare, thirtyTwo, allowed, starred, Starred, further, Further, lacking, Lacking, total, remembered, copying, carried, chained, unmappedOnce, Moves, repliedIn, replied, falling, asked, HoldersAsked, twoSides, mappingBoth, MappingBoth, nested, twoSorts, mappedTwice, MappedTwice, Filled, runB, gaining, heard, spreading, Spreading}
+use Rattle.flow.specs.Kept.{Kept, EveryRecordKeeps}
+use Rattle.flow.proofs.Bools.{no-both}
+use Rattle.flow.proofs.Keeping.{every-record-keeps}
 use Rattle.flow.proofs.Filling.{Opened, filled}
 use Rattle.flow.proofs.Renaming.{renamed-itself}
-use Rattle.flow.specs.AtOnce.{movedAtOnce, afterAtOnce, verdictAtOnce, outcomeOfCallAtOnce, outcomeOfAtOnce, outcomeAtOnce, stateAfterAtOnce, nextAtOnce, torn, Torn, FormsDiffer}
+use Rattle.flow.specs.AtOnce.{movedAtOnce, afterAtOnce, verdictAtOnce, outcomeOfCallAtOnce, outcomeOfAtOnce, outcomeAtOnce, stateAfterAtOnce, nextAtOnce, torn, Torn, NeverTorn, FormsDiffer}
 
 -- J: its last record meets the state of the others, in which it is allowed, and a name renamed to itself changes none. To compute both states and
 -- compare their items takes longer than all other runs.
@@ -38,7 +42,7 @@ Allowed = (outcome met (call rename 0 5 5 0) ≡ allows (change (met .tables) it
 
 -- together, since each would unfold the same definitions
 all-runs : (map outcomeOf starred ≡ starred) × Allowed × Further × Lacking × HoldersAsked × MappingBoth × FormsDiffer × Torn × Moves × MappedTwice × Opened × Spreading
-unfolding has only _∪_ _∩_ bit thoseFrom those without tableFrom table someBelow isIn firstThat _⇒_ isDevice isProcess isFile fresh itemsOf rowOf mappings mappedIn feedersOf feeds descriptor name isTarget linked meets through throughEach closure reach given mapped used kindNumber withLive withDescriptors withNames withRow withRows raised lowered sortOf putBlock block isFed tablesBy flowBy change moved ended itemsAfter after holds breaks broken firstBroken lowestBroken forbids byteAt tagOf statedLength recordLength valueOf cutShort knownTag tagLength wrongLength kinds kindOf callBy callFrom callIn conditionOf numberFrom setIn ruleWith ruleIn frameTests contentOf readingBy reading callRead callOf recordsIn recordsOf inRange ranges fieldsFit isLive isOpen isBound dead taken needOf missing sameDescriptors noFile full callTests itemsFit substituteFits sameItems fieldTests ruleTests noMappings noTables isNone isKind diversion mayDivert breaksNone stopped verdictBy verdictAt verdict hasMore gained members outcomeOfCall outcomeOfRule outcomeRead outcome answerOf answer withRule stateAfter next answerAll runLog flowed changed contentsAfter linkedTo stepContents stepState stateAt runAt labelOf itemLabelled plain outcomeBy call shared filed renamed spare thirtyTwo allowed starred Starred total remembered copying carried chained unmappedOnce Moves further Further lacking Lacking repliedIn replied falling asked HoldersAsked holders holdersRefusal replyBy holdersQuery sliceBy holdersSlice risingFrom rising twoSides mappingBoth MappingBoth nested twoSorts mappedTwice MappedTwice Opened runB gaining heard spreading Spreading inSequence atOnce movedAtOnce afterAtOnce verdictAtOnce outcomeOfCallAtOnce outcomeOfAtOnce outcomeAtOnce stateAfterAtOnce nextAtOnce torn Torn FormsDiffer
+unfolding has only _∪_ _∩_ bit thoseFrom those without tableFrom table someBelow isIn firstThat _⇒_ isDevice isProcess isFile fresh itemsOf rowOf mappings mappedIn feedersOf feeds descriptor name isTarget linked meets through throughEach closure reach given mapped used kindNumber withLive withDescriptors withNames withRow withRows raised lowered sortOf putBlock block isFed tablesBy flowBy change moved ended itemsAfter after holds breaks broken firstBroken lowestBroken forbids byteAt tagOf statedLength recordLength valueOf cutShort knownTag tagLength wrongLength kinds kindOf callBy callFrom callIn conditionOf numberFrom setIn ruleWith ruleIn frameTests contentOf readingBy reading callRead callOf recordsIn recordsOf inRange ranges fieldsFit isLive isOpen isBound dead taken needOf missing sameDescriptors noFile full callTests itemsFit substituteFits sameItems fieldTests ruleTests noMappings noTables isNone isKind diversion mayDivert breaksNone stopped verdictBy verdictAt verdict hasMore gained members outcomeOfCall outcomeOfRule outcomeRead outcome answerOf answer withRule stateAfter next answerAll runLog flowed changed contentsAfter linkedTo stepContents stepState stateAt runAt labelOf itemLabelled plain outcomeOf wordsOf call shared filed renamed spare thirtyTwo allowed starred Starred total remembered copying carried chained unmappedOnce Moves further Further lacking Lacking repliedIn replied falling asked HoldersAsked holders holdersRefusal replyBy holdersQuery sliceBy holdersSlice risingFrom rising twoSides mappingBoth MappingBoth nested twoSorts mappedTwice MappedTwice Opened runB gaining heard spreading Spreading inSequence atOnce movedAtOnce afterAtOnce verdictAtOnce outcomeOfCallAtOnce outcomeOfAtOnce outcomeAtOnce stateAfterAtOnce nextAtOnce torn Torn FormsDiffer
 all-runs = (refl, (refl, refl), refl, refl, refl, refl, (refl, refl, refl, refl), (λ rules. (refl, refl, refl)), (refl, refl, refl, refl, refl, refl, refl, refl, refl, refl, refl, refl), refl, (refl, refl, refl, refl, refl, refl, refl), refl)
 
 pub starred-runs : Starred
@@ -74,3 +78,10 @@ counts-filled = filled (all-runs .10)
 
 pub spreading-told : Spreading
 spreading-told = all-runs .11
+
+-- a torn state has a link that an item does not go along
+pub never-torn : NeverTorn
+unfolding NeverTorn Torn EveryRecordKeeps
+never-torn rules steps k e =
+    let kept : Kept (torn rules) = rw e at (every-record-keeps steps k) in
+    no-both (kept .along 24 9 1 (omega arith) (omega arith) (torn-is rules .0) (torn-is rules .1)) (torn-is rules .2)

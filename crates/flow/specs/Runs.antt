@@ -24,22 +24,11 @@ pub record Check : Type 0 where
   pub answers : List Answer
   pub held : List Held
 
--- an answer without how many containers gained: these runs say what passes; those of Paper 5, below, how far it spread
-unfoldable pub plain : Answer → Answer
-plain (refused n) = refused n
-plain (rule n) = rule n
-plain (allow n) = allow 0
-plain (inhibit n) = inhibit n
-plain (modify n c k) = modify n c 0
-
--- the log's answers, each by f, and holdings as the definitions have them
-unfoldable pub outcomeBy : (Answer → Answer) → Check → Check
-outcomeBy f x =
+-- the log's answers and holdings as the definitions have them
+unfoldable pub outcomeOf : Check → Check
+outcomeOf x =
     let r = runLog fresh (x .log) in
-    record { log = x .log; answers = map f (r .answers); held = map (λ h. record { container = h .container; items = itemsOf (r .state) (h .container) }) (x .held) }
-
-abbrev pub outcomeOf : Check → Check
-outcomeOf x = outcomeBy plain x
+    record { log = x .log; answers = r .answers; held = map (λ h. record { container = h .container; items = itemsOf (r .state) (h .container) }) (x .held) }
 
 -- ---- logs
 -- a call record
@@ -77,8 +66,9 @@ spare = setRule 0x11 0 0 0 0 0x80 0 0
 unfoldable pub thirtyTwo : List ℕ → List ℕ
 thirtyTwo l = let m = l ++ l ++ l ++ l in m ++ m ++ m ++ m ++ m ++ m ++ m ++ m
 
-unfoldable pub allowed : ℕ → List Answer
-allowed n = table n (λ k. allow 0)
+-- allowed calls, by how many containers gained in each (02, Paper 5)
+unfoldable pub gaining : List ℕ → List Answer
+gaining l = map allow l
 
 unfoldable pub starred : List Check
 starred =
@@ -96,31 +86,31 @@ starred =
     -- F: pipe with descriptors 3 and 3, closed, with container 24 free, then with it in use
     ∷ check (call start 0 0 0 0 ++ call pipe 0 3 3 24 ++ call create 0 0 0 24 ++ call pipe 0 3 3 24) (allow 0 ∷ refused 9 ∷ allow 0 ∷ refused 7 ∷ []) []
     -- G: 8, 24 and 9 hold 2
-    ∷ check shared (allowed 9) (holding 8 4 ∷ holding 24 4 ∷ holding 9 4 ∷ [])
+    ∷ check shared (gaining (0 ∷ 0 ∷ 0 ∷ 0 ∷ 0 ∷ 1 ∷ 0 ∷ 0 ∷ 3 ∷ [])) (holding 8 4 ∷ holding 24 4 ∷ holding 9 4 ∷ [])
     -- H: truncate 24: it still holds 2. Process 0 unmaps 24 (02, Paper 4: b = 1) and truncates again: 24 is empty, 9 holds 2
-    ∷ check (shared ++ call truncate 0 0 0 0) (allowed 10) (holding 24 4 ∷ [])
-    ∷ check (shared ++ call truncate 0 0 0 0 ++ call unmap 0 24 1 0 ++ call truncate 0 0 0 0) (allowed 12) (holding 24 0 ∷ holding 9 4 ∷ [])
+    ∷ check (shared ++ call truncate 0 0 0 0) (gaining (0 ∷ 0 ∷ 0 ∷ 0 ∷ 0 ∷ 1 ∷ 0 ∷ 0 ∷ 3 ∷ 0 ∷ [])) (holding 24 4 ∷ [])
+    ∷ check (shared ++ call truncate 0 0 0 0 ++ call unmap 0 24 1 0 ++ call truncate 0 0 0 0) (gaining (0 ∷ 0 ∷ 0 ∷ 0 ∷ 0 ∷ 1 ∷ 0 ∷ 0 ∷ 3 ∷ 0 ∷ 0 ∷ 0 ∷ [])) (holding 24 0 ∷ holding 9 4 ∷ [])
     -- I: create, label, close: the item stays. Unlink too: 24 is empty and may be created again
-    ∷ check (filed ++ call close 0 0 0 0) (allowed 4) (holding 24 2 ∷ [])
-    ∷ check (filed ++ call close 0 0 0 0 ++ call unlink 0 5 0 0) (allowed 5) (holding 24 0 ∷ [])
-    ∷ check (filed ++ call close 0 0 0 0 ++ call unlink 0 5 0 0 ++ call create 0 5 0 24) (allowed 6) (holding 24 0 ∷ [])
+    ∷ check (filed ++ call close 0 0 0 0) (gaining (0 ∷ 0 ∷ 1 ∷ 0 ∷ [])) (holding 24 2 ∷ [])
+    ∷ check (filed ++ call close 0 0 0 0 ++ call unlink 0 5 0 0) (gaining (0 ∷ 0 ∷ 1 ∷ 0 ∷ 0 ∷ [])) (holding 24 0 ∷ [])
+    ∷ check (filed ++ call close 0 0 0 0 ++ call unlink 0 5 0 0 ++ call create 0 5 0 24) (gaining (0 ∷ 0 ∷ 1 ∷ 0 ∷ 0 ∷ 0 ∷ [])) (holding 24 0 ∷ [])
     -- J: rename of bound 5 to 5
-    ∷ check renamed (allowed 4) (holding 24 2 ∷ [])
+    ∷ check renamed (gaining (0 ∷ 0 ∷ 1 ∷ 0 ∷ [])) (holding 24 2 ∷ [])
     -- K: a rule against item 1 in 24 while it is there; with 32 rules held
-    ∷ check (filed ++ setRule 0x11 1 1 0 0 0 0 0) (allowed 3 ++ refused 12 ∷ []) []
-    ∷ check (filed ++ thirtyTwo spare ++ setRule 0x11 1 1 0 0 0 0 0) (allowed 3 ++ table 32 rule ++ refused 11 ∷ []) []
+    ∷ check (filed ++ setRule 0x11 1 1 0 0 0 0 0) (gaining (0 ∷ 0 ∷ 1 ∷ []) ++ refused 12 ∷ []) []
+    ∷ check (filed ++ thirtyTwo spare ++ setRule 0x11 1 1 0 0 0 0 0) (gaining (0 ∷ 0 ∷ 1 ∷ []) ++ table 32 rule ++ refused 11 ∷ []) []
     -- L: rule on items 1 and 2; a process holding 1 reads 2
     ∷ check
     ((0x12 ∷ 0 ∷ 4 ∷ 1 ∷ 2 ∷ 0 ∷ 0 ∷ []) ++ call start 0 0 0 0 ++ call label 0 8 1 0 ++ call create 0 0 0 24 ++ call label 0 24 2 0 ++ call read 0 0 0 0)
-    (rule 0 ∷ allow 0 ∷ allow 0 ∷ allow 0 ∷ allow 0 ∷ inhibit 0 ∷ [])
+    (rule 0 ∷ allow 0 ∷ allow 1 ∷ allow 0 ∷ allow 1 ∷ inhibit 0 ∷ [])
     []
     -- M: a divert whose substitute 24 isn't in use
     ∷ check
     (setRule 0x11 1 0 0 0 2 1 24 ++ call start 0 0 0 0 ++ call label 0 8 1 0 ++ call device 0 0 1 0 ++ call write 0 0 0 0)
-    (rule 0 ∷ allow 0 ∷ allow 0 ∷ allow 0 ∷ inhibit 0 ∷ [])
+    (rule 0 ∷ allow 0 ∷ allow 1 ∷ allow 0 ∷ inhibit 0 ∷ [])
     []
     -- N: a tag 13 hex rule, action 0, allows item 1 only in 24 and 8; process 0 holds it and forks 1
-    ∷ check (setRule 0x13 1 1 0 1 0 0 0 ++ call start 0 0 0 0 ++ call label 0 8 1 0 ++ call fork 0 1 0 0) (rule 0 ∷ allow 0 ∷ allow 0 ∷ inhibit 0 ∷ []) []
+    ∷ check (setRule 0x13 1 1 0 1 0 0 0 ++ call start 0 0 0 0 ++ call label 0 8 1 0 ++ call fork 0 1 0 0) (rule 0 ∷ allow 0 ∷ allow 1 ∷ inhibit 0 ∷ []) []
     ∷ []
 
 -- each has its stated outcome; and J changes nothing
@@ -131,6 +121,21 @@ Starred = (map outcomeOf starred ≡ starred) × (runLog fresh renamed .state �
 unfoldable pub runB : List ℕ
 runB =
     call start 0 0 0 0 ++ call create 0 5 0 24 ++ call label 0 24 1 0 ++ setRule 0x11 1 0 0 0 2 1 3 ++ call device 0 1 1 0 ++ call read 0 0 0 0 ++ call write 0 1 0 0 ++ call write 0 2 0 0 ++ 0x10 ∷ 0 ∷ []
+
+-- ---- words alone
+-- an answer without how many containers gained; the runs down to Paper 5's are stated so
+unfoldable pub plain : Answer → Answer
+plain (refused n) = refused n
+plain (rule n) = rule n
+plain (allow n) = allow 0
+plain (inhibit n) = inhibit n
+plain (modify n c k) = modify n c 0
+
+unfoldable pub wordsOf : Check → Check
+wordsOf x = let y = outcomeOf x in record { log = y .log; answers = map plain (y .answers); held = y .held }
+
+unfoldable pub allowed : ℕ → List Answer
+allowed n = table n (λ k. allow 0)
 
 -- ---- further checks: run B's answers, and the rows of the table of refusals that no starred run meets
 unfoldable pub further : List Check
@@ -178,7 +183,7 @@ further =
     ∷ []
 
 unfoldable pub Further : Type 0
-Further = map outcomeOf further ≡ further
+Further = map wordsOf further ≡ further
 
 -- ---- 02, Paper 1: holders in rising container number
 -- a query for the holders of an item with a lent slice, the reply, and the slice after it
@@ -252,7 +257,7 @@ lacking =
     ∷ []
 
 unfoldable pub Lacking : Type 0
-Lacking = map outcomeOf lacking ≡ lacking
+Lacking = map wordsOf lacking ≡ lacking
 
 -- ---- 02, Paper 3: map both
 -- 24 holds item 1 and links to process 1; process 0 (container 8) holds item 2 and links to 25
@@ -281,7 +286,7 @@ mappingBoth =
     ∷ []
 
 unfoldable pub MappingBoth : Type 0
-MappingBoth = map outcomeOf mappingBoth ≡ mappingBoth
+MappingBoth = map wordsOf mappingBoth ≡ mappingBoth
 
 -- ---- 02, Paper 4: mapped twice
 -- process 0 has 24, the beat buffer, open and maps it for reading twice, as two nested callbacks do
@@ -331,7 +336,7 @@ mappedTwice =
     ∷ []
 
 unfoldable pub MappedTwice : Type 0
-MappedTwice = map outcomeOf mappedTwice ≡ mappedTwice
+MappedTwice = map wordsOf mappedTwice ≡ mappedTwice
 
 -- Process 0 maps 24 for reading 255 times, and once more: 17. It forks process 1: both have the count, 17 for either. After an unmap process 1 has
 -- room for one.
@@ -352,10 +357,6 @@ Filled =
 unfoldable pub heard : List ℕ
 heard = call start 0 0 0 0 ++ call start 1 0 0 0 ++ call create 0 0 0 24 ++ call openName 1 0 0 0 ++ call mapRead 0 0 0 0 ++ call mapRead 1 0 0 0
 
--- allowed calls, by how many containers gained in each
-unfoldable pub gaining : List ℕ → List Answer
-gaining l = map allow l
-
 unfoldable pub spreading : List Check
 spreading =
     -- B
@@ -373,6 +374,11 @@ spreading =
     (heard ++ call label 0 8 1 0 ++ call label 0 8 2 0 ++ call write 0 0 0 0)
     (gaining (0 ∷ 0 ∷ 0 ∷ 0 ∷ 0 ∷ 0 ∷ 1 ∷ 1 ∷ 2 ∷ []))
     (holding 8 6 ∷ holding 9 6 ∷ holding 24 6 ∷ [])
+    -- map both: what lies on either side is gained on the other, process 0 and 25 on one, 24 and process 1 on the other
+    ∷ check
+    (twoSides ++ call mapBoth 0 0 0 0)
+    (gaining (0 ∷ 0 ∷ 0 ∷ 0 ∷ 0 ∷ 1 ∷ 1 ∷ 0 ∷ 2 ∷ 4 ∷ []))
+    (holding 8 6 ∷ holding 25 6 ∷ holding 24 6 ∷ holding 9 6 ∷ [])
     -- a forked child gains if its parent holds anything; emptying is no gain
     ∷ check
     (call start 0 0 0 0 ++ call fork 0 1 0 0 ++ call label 0 8 1 0 ++ call label 0 8 2 0 ++ call fork 0 2 0 0 ++ call exit 2 0 0 0 ++ call exit 0 0 0 0)
@@ -391,7 +397,7 @@ spreading =
     ∷ []
 
 unfoldable pub Spreading : Type 0
-Spreading = map (outcomeBy (λ a. a)) spreading ≡ spreading
+Spreading = map outcomeOf spreading ≡ spreading
 
 -- ---- contents do move
 -- the sum of the contents of what links to a container
