@@ -17,7 +17,7 @@ use Rattle.flow.specs.Refusals.{inRange, ranges, fieldsFit, dead, taken,
 use Rattle.flow.specs.Verdicts.{allows, diversion, mayDivert, breaksNone, stopped, verdictBy, verdictAt, verdict, outcomeOfCall, outcomeOfRule, outcomeOf as outcomeRead, outcome, answerOf, answer, withRule, stateAfter, next, answerAll, runLog}
 use Rattle.flow.specs.Queries.{holders, holdersRefusal, replyBy, holdersQuery, sliceBy, holdersSlice}
 use Rattle.flow.specs.Contents.{flowed, changed, contentsAfter, linkedTo, stepContents, stepState, stateAt, runAt, labelOf, itemLabelled}
-use Rattle.flow.specs.Runs.{plain, outcomeOf, wordsOf, call, shared, filed, renamed, spare, thirtyTwo, allowed, starred, Starred, further, Further, lacking, Lacking, total, remembered, copying, carried, chained, unmappedOnce, Moves, repliedIn, replied, falling, asked, HoldersAsked, twoSides, mappingBoth, MappingBoth, nested, twoSorts, mappedTwice, MappedTwice, Filled, runB, gaining, heard, spreading, Spreading}
+use Rattle.flow.specs.Runs.{outcomeOf, call, shared, filed, renamed, spare, thirtyTwo, allowed, starred, Starred, further, Further, lacking, Lacking, total, remembered, copying, carried, chained, unmappedOnce, Moves, repliedIn, replied, falling, asked, HoldersAsked, twoSides, mappingBoth, MappingBoth, nested, twoSorts, mappedTwice, MappedTwice, Filled, runB, gaining, heard, spreading, Spreading}
 use Rattle.flow.specs.Kept.{Kept, EveryRecordKeeps}
 use Rattle.flow.proofs.Bools.{no-both}
 use Rattle.flow.proofs.Keeping.{every-record-keeps}
@@ -25,8 +25,8 @@ use Rattle.flow.proofs.Filling.{Opened, filled}
 use Rattle.flow.proofs.Renaming.{renamed-itself}
 use Rattle.flow.specs.AtOnce.{movedAtOnce, afterAtOnce, verdictAtOnce, outcomeOfCallAtOnce, outcomeOfAtOnce, outcomeAtOnce, stateAfterAtOnce, nextAtOnce, torn, Torn, NeverTorn, FormsDiffer}
 
--- J: its last record meets the state of the others, in which it is allowed, and a name renamed to itself changes none. To compute both states and
--- compare their items takes longer than all other runs.
+-- J: its last record meets the state of the others, in which it is allowed, and a name renamed to itself changes none. Computed, the items of
+-- both states take as long as all other starred runs together.
 abbrev met : State
 met = runLog fresh filed .state
 
@@ -40,44 +40,48 @@ last-meets = refl
 abbrev Allowed : Type 0
 Allowed = (outcome met (call rename 0 5 5 0) ≡ allows (change (met .tables) itself) 0) × (length (met .items) ≡ 64)
 
--- together, since each would unfold the same definitions
-all-runs : (map outcomeOf starred ≡ starred) × Allowed × Further × Lacking × HoldersAsked × MappingBoth × FormsDiffer × Torn × Moves × MappedTwice × Opened × Spreading
-unfolding has only _∪_ _∩_ bit thoseFrom those without tableFrom table someBelow isIn firstThat _⇒_ isDevice isProcess isFile fresh itemsOf rowOf mappings mappedIn feedersOf feeds descriptor name isTarget linked meets through throughEach closure reach given mapped used kindNumber withLive withDescriptors withNames withRow withRows raised lowered sortOf putBlock block isFed tablesBy flowBy change moved ended itemsAfter after holds breaks broken firstBroken lowestBroken forbids byteAt tagOf statedLength recordLength valueOf cutShort knownTag tagLength wrongLength kinds kindOf callBy callFrom callIn conditionOf numberFrom setIn ruleWith ruleIn frameTests contentOf readingBy reading callRead callOf recordsIn recordsOf inRange ranges fieldsFit isLive isOpen isBound dead taken needOf missing sameDescriptors noFile full callTests itemsFit substituteFits sameItems fieldTests ruleTests noMappings noTables isNone isKind diversion mayDivert breaksNone stopped verdictBy verdictAt verdict hasMore gained members outcomeOfCall outcomeOfRule outcomeRead outcome answerOf answer withRule stateAfter next answerAll runLog flowed changed contentsAfter linkedTo stepContents stepState stateAt runAt labelOf itemLabelled plain outcomeOf wordsOf call shared filed renamed spare thirtyTwo allowed starred Starred total remembered copying carried chained unmappedOnce Moves further Further lacking Lacking repliedIn replied falling asked HoldersAsked holders holdersRefusal replyBy holdersQuery sliceBy holdersSlice risingFrom rising twoSides mappingBoth MappingBoth nested twoSorts mappedTwice MappedTwice Opened runB gaining heard spreading Spreading inSequence atOnce movedAtOnce afterAtOnce verdictAtOnce outcomeOfCallAtOnce outcomeOfAtOnce outcomeAtOnce stateAfterAtOnce nextAtOnce torn Torn FormsDiffer
-all-runs = (refl, (refl, refl), refl, refl, refl, refl, (refl, refl, refl, refl), (λ rules. (refl, refl, refl)), (refl, refl, refl, refl, refl, refl, refl, refl, refl, refl, refl, refl), refl, (refl, refl, refl, refl, refl, refl, refl), refl)
+-- in two parts, each within the steps that one proof may take; not one by one, since each would unfold the same definitions
+first-runs : (map outcomeOf starred ≡ starred) × Allowed × Further × Lacking × HoldersAsked
+unfolding has only _∪_ _∩_ bit thoseFrom those without tableFrom table someBelow isIn firstThat _⇒_ isDevice isProcess isFile fresh itemsOf rowOf mappings mappedIn feedersOf feeds descriptor name isTarget linked meets through throughEach closure reach given mapped used kindNumber withLive withDescriptors withNames withRow withRows raised lowered sortOf putBlock block isFed tablesBy flowBy change moved ended itemsAfter after holds breaks broken firstBroken lowestBroken forbids byteAt tagOf statedLength recordLength valueOf cutShort knownTag tagLength wrongLength kinds kindOf callBy callFrom callIn conditionOf numberFrom setIn ruleWith ruleIn frameTests contentOf readingBy reading callRead callOf recordsIn recordsOf inRange ranges fieldsFit isLive isOpen isBound dead taken needOf missing sameDescriptors noFile full callTests itemsFit substituteFits sameItems fieldTests ruleTests noMappings noTables isNone isKind diversion mayDivert breaksNone stopped verdictBy verdictAt verdict hasMore gained members outcomeOfCall outcomeOfRule outcomeRead outcome answerOf answer withRule stateAfter next answerAll runLog flowed changed contentsAfter linkedTo stepContents stepState stateAt runAt labelOf itemLabelled outcomeOf call shared filed renamed spare thirtyTwo allowed starred Starred total remembered copying carried chained unmappedOnce Moves further Further lacking Lacking repliedIn replied falling asked HoldersAsked holders holdersRefusal replyBy holdersQuery sliceBy holdersSlice risingFrom rising twoSides mappingBoth MappingBoth nested twoSorts mappedTwice MappedTwice Opened runB gaining heard spreading Spreading inSequence atOnce movedAtOnce afterAtOnce verdictAtOnce outcomeOfCallAtOnce outcomeOfAtOnce outcomeAtOnce stateAfterAtOnce nextAtOnce torn Torn FormsDiffer
+first-runs = (refl, (refl, refl), refl, refl, refl)
+
+later-runs : MappingBoth × FormsDiffer × Torn × Moves × MappedTwice × Opened × Spreading
+unfolding has only _∪_ _∩_ bit thoseFrom those without tableFrom table someBelow isIn firstThat _⇒_ isDevice isProcess isFile fresh itemsOf rowOf mappings mappedIn feedersOf feeds descriptor name isTarget linked meets through throughEach closure reach given mapped used kindNumber withLive withDescriptors withNames withRow withRows raised lowered sortOf putBlock block isFed tablesBy flowBy change moved ended itemsAfter after holds breaks broken firstBroken lowestBroken forbids byteAt tagOf statedLength recordLength valueOf cutShort knownTag tagLength wrongLength kinds kindOf callBy callFrom callIn conditionOf numberFrom setIn ruleWith ruleIn frameTests contentOf readingBy reading callRead callOf recordsIn recordsOf inRange ranges fieldsFit isLive isOpen isBound dead taken needOf missing sameDescriptors noFile full callTests itemsFit substituteFits sameItems fieldTests ruleTests noMappings noTables isNone isKind diversion mayDivert breaksNone stopped verdictBy verdictAt verdict hasMore gained members outcomeOfCall outcomeOfRule outcomeRead outcome answerOf answer withRule stateAfter next answerAll runLog flowed changed contentsAfter linkedTo stepContents stepState stateAt runAt labelOf itemLabelled outcomeOf call shared filed renamed spare thirtyTwo allowed starred Starred total remembered copying carried chained unmappedOnce Moves further Further lacking Lacking repliedIn replied falling asked HoldersAsked holders holdersRefusal replyBy holdersQuery sliceBy holdersSlice risingFrom rising twoSides mappingBoth MappingBoth nested twoSorts mappedTwice MappedTwice Opened runB gaining heard spreading Spreading inSequence atOnce movedAtOnce afterAtOnce verdictAtOnce outcomeOfCallAtOnce outcomeOfAtOnce outcomeAtOnce stateAfterAtOnce nextAtOnce torn Torn FormsDiffer
+later-runs = (refl, (refl, refl, refl, refl), (λ rules. (refl, refl, refl)), (refl, refl, refl, refl, refl, refl, refl, refl, refl, refl, refl, refl), refl, (refl, refl, refl, refl, refl, refl, refl), refl)
 
 pub starred-runs : Starred
 unfolding Starred stateAfter
-starred-runs = (all-runs .0, last-meets ∙ ap (stateAfter met) (all-runs .1 .0) ∙ renamed-itself met 0 5 0 (all-runs .1 .1))
+starred-runs = (first-runs .0, last-meets ∙ ap (stateAfter met) (first-runs .1 .0) ∙ renamed-itself met 0 5 0 (first-runs .1 .1))
 
 pub further-checks : Further
-further-checks = all-runs .2
+further-checks = first-runs .2
 
 pub lacking-told : Lacking
-lacking-told = all-runs .3
+lacking-told = first-runs .3
 
 pub holders-asked : HoldersAsked
-holders-asked = all-runs .4
+holders-asked = first-runs .4
 
 pub mapping-both : MappingBoth
-mapping-both = all-runs .5
+mapping-both = later-runs .0
 
 pub forms-differ : FormsDiffer
-forms-differ = all-runs .6
+forms-differ = later-runs .1
 
 pub torn-is : Torn
-torn-is = all-runs .7
+torn-is = later-runs .2
 
 pub contents-move : Moves
-contents-move = all-runs .8
+contents-move = later-runs .3
 
 pub mapped-twice : MappedTwice
-mapped-twice = all-runs .9
+mapped-twice = later-runs .4
 
 pub counts-filled : Filled
-counts-filled = filled (all-runs .10)
+counts-filled = filled (later-runs .5)
 
 pub spreading-told : Spreading
-spreading-told = all-runs .11
+spreading-told = later-runs .6
 
 -- a torn state has a link that an item does not go along
 pub never-torn : NeverTorn

@@ -66,6 +66,10 @@ spare = setRule 0x11 0 0 0 0 0x80 0 0
 unfoldable pub thirtyTwo : List ℕ → List ℕ
 thirtyTwo l = let m = l ++ l ++ l ++ l in m ++ m ++ m ++ m ++ m ++ m ++ m ++ m
 
+-- allowed calls by which nothing gains
+unfoldable pub allowed : ℕ → List Answer
+allowed n = table n (λ k. allow 0)
+
 -- allowed calls, by how many containers gained in each (02, Paper 5)
 unfoldable pub gaining : List ℕ → List Answer
 gaining l = map allow l
@@ -122,33 +126,18 @@ unfoldable pub runB : List ℕ
 runB =
     call start 0 0 0 0 ++ call create 0 5 0 24 ++ call label 0 24 1 0 ++ setRule 0x11 1 0 0 0 2 1 3 ++ call device 0 1 1 0 ++ call read 0 0 0 0 ++ call write 0 1 0 0 ++ call write 0 2 0 0 ++ 0x10 ∷ 0 ∷ []
 
--- ---- words alone
--- an answer without how many containers gained; the runs down to Paper 5's are stated so
-unfoldable pub plain : Answer → Answer
-plain (refused n) = refused n
-plain (rule n) = rule n
-plain (allow n) = allow 0
-plain (inhibit n) = inhibit n
-plain (modify n c k) = modify n c 0
-
-unfoldable pub wordsOf : Check → Check
-wordsOf x = let y = outcomeOf x in record { log = y .log; answers = map plain (y .answers); held = y .held }
-
-unfoldable pub allowed : ℕ → List Answer
-allowed n = table n (λ k. allow 0)
-
 -- ---- further checks: run B's answers, and the rows of the table of refusals that no starred run meets
 unfoldable pub further : List Check
 further =
-    -- B (02, Paper 2: its last line but one is 14)
+    -- B (02, Paper 2: its last line but one is 14; Paper 5: how many gained)
     check
     runB
-    (allowed 3 ++ rule 0 ∷ allow 0 ∷ allow 0 ∷ modify 0 3 0 ∷ refused 14 ∷ refused 1 ∷ [])
+    (gaining (0 ∷ 0 ∷ 1 ∷ []) ++ rule 0 ∷ allow 0 ∷ allow 1 ∷ modify 0 3 1 ∷ refused 14 ∷ refused 1 ∷ [])
     (holding 3 2 ∷ holding 1 0 ∷ [])
     -- the lowest broken rule is number 1, and it inhibits although number 2 would divert
     ∷ check
     (spare ++ setRule 0x11 1 0 0 0 2 0 0 ++ setRule 0x11 1 0 0 0 2 1 3 ++ call start 0 0 0 0 ++ call label 0 8 1 0 ++ call device 0 0 1 0 ++ call write 0 0 0 0)
-    (rule 0 ∷ rule 1 ∷ rule 2 ∷ allow 0 ∷ allow 0 ∷ allow 0 ∷ inhibit 1 ∷ [])
+    (rule 0 ∷ rule 1 ∷ rule 2 ∷ allow 0 ∷ allow 1 ∷ allow 0 ∷ inhibit 1 ∷ [])
     []
     -- 1 before 2 and 3: the value runs past the end; 2 before 3; 3 before 4
     ∷ check (0x20 ∷ 0 ∷ 1 ∷ []) (refused 1 ∷ []) []
@@ -168,22 +157,22 @@ further =
     -- a dead process leaves no descriptors and no links: started again it has none
     ∷ check
     (call start 0 0 0 0 ++ call create 0 0 0 24 ++ call mapBoth 0 0 0 0 ++ call exit 0 0 0 0 ++ call start 0 0 0 0 ++ call read 0 0 0 0 ++ call unmap 0 24 1 0 ++ call label 0 24 1 0)
-    (allowed 5 ++ refused 14 ∷ refused 16 ∷ allow 0 ∷ [])
+    (allowed 5 ++ refused 14 ∷ refused 16 ∷ allow 1 ∷ [])
     (holding 24 2 ∷ holding 8 0 ∷ [])
     -- a child has the parent's descriptors, and its links in each direction
     ∷ check
     (call start 0 0 0 0 ++ call create 0 0 0 24 ++ call create 0 1 1 25 ++ call mapBoth 0 0 0 0 ++ call fork 0 1 0 0 ++ call label 0 24 1 0 ++ call label 0 9 2 0 ++ call write 1 1 0 0)
-    (allowed 8)
+    (gaining (0 ∷ 0 ∷ 0 ∷ 0 ∷ 0 ∷ 3 ∷ 3 ∷ 1 ∷ []))
     (holding 8 6 ∷ holding 9 6 ∷ holding 24 6 ∷ holding 25 6 ∷ [])
     -- rename unbinds a, and empties what b led to; dup and link lead where a does
     ∷ check
     (call start 0 0 0 0 ++ call create 0 0 0 24 ++ call create 0 1 1 25 ++ call label 0 25 1 0 ++ call close 0 1 0 0 ++ call rename 0 0 1 0 ++ call openName 0 0 2 0 ++ call dup 0 0 3 0 ++ call label 0 24 2 0 ++ call read 0 3 0 0 ++ call link 0 1 4 0 ++ call openName 0 4 5 0)
-    (allowed 6 ++ refused 15 ∷ allowed 5)
+    (gaining (0 ∷ 0 ∷ 0 ∷ 1 ∷ 0 ∷ 0 ∷ []) ++ refused 15 ∷ gaining (0 ∷ 1 ∷ 1 ∷ 0 ∷ 0 ∷ []))
     (holding 25 0 ∷ holding 8 4 ∷ [])
     ∷ []
 
 unfoldable pub Further : Type 0
-Further = map wordsOf further ≡ further
+Further = map outcomeOf further ≡ further
 
 -- ---- 02, Paper 1: holders in rising container number
 -- a query for the holders of an item with a lent slice, the reply, and the slice after it
@@ -252,12 +241,12 @@ lacking =
     -- a file whose name, descriptor and links end one by one
     ∷ check
     (call start 0 0 0 0 ++ call create 0 5 0 24 ++ call mapBoth 0 0 0 0 ++ call unlink 0 5 0 0 ++ call openName 0 5 1 0 ++ call close 0 0 0 0 ++ call read 0 0 0 0 ++ call label 0 24 1 0 ++ call unmap 0 24 1 0 ++ call unmap 0 24 1 0 ++ call label 0 24 1 0)
-    (allowed 4 ++ refused 15 ∷ allow 0 ∷ refused 14 ∷ allow 0 ∷ allow 0 ∷ refused 16 ∷ refused 8 ∷ [])
+    (allowed 4 ++ refused 15 ∷ allow 0 ∷ refused 14 ∷ allow 2 ∷ allow 0 ∷ refused 16 ∷ refused 8 ∷ [])
     (holding 8 2 ∷ holding 24 0 ∷ [])
     ∷ []
 
 unfoldable pub Lacking : Type 0
-Lacking = map wordsOf lacking ≡ lacking
+Lacking = map outcomeOf lacking ≡ lacking
 
 -- ---- 02, Paper 3: map both
 -- 24 holds item 1 and links to process 1; process 0 (container 8) holds item 2 and links to 25
@@ -271,22 +260,22 @@ mappingBoth =
     -- process 0 maps 24 both ways: both items are on both sides, and what comes later to either end comes to all
     check
     (twoSides ++ call mapBoth 0 0 0 0 ++ call label 0 25 3 0 ++ call label 0 24 4 0)
-    (allowed 12)
+    (gaining (0 ∷ 0 ∷ 0 ∷ 0 ∷ 0 ∷ 1 ∷ 1 ∷ 0 ∷ 2 ∷ 4 ∷ 4 ∷ 4 ∷ []))
     (holding 8 30 ∷ holding 25 30 ∷ holding 24 30 ∷ holding 9 30 ∷ [])
     -- where item 2 may not be in process 1, or item 1 not in 25, it is inhibited, and no link is laid: item 4 on 24 stays on its side, and
     -- there is nothing to unmap
     ∷ check
     (setRule 0x11 2 0 0 2 0 0 0 ++ twoSides ++ call mapBoth 0 0 0 0 ++ call label 0 24 4 0 ++ call unmap 0 24 1 0)
-    (rule 0 ∷ allowed 9 ++ inhibit 0 ∷ allow 0 ∷ refused 16 ∷ [])
+    (rule 0 ∷ gaining (0 ∷ 0 ∷ 0 ∷ 0 ∷ 0 ∷ 1 ∷ 1 ∷ 0 ∷ 2 ∷ []) ++ inhibit 0 ∷ allow 2 ∷ refused 16 ∷ [])
     (holding 8 4 ∷ holding 25 4 ∷ holding 24 18 ∷ holding 9 18 ∷ [])
     ∷ check
     (setRule 0x11 1 2 0 0 0 0 0 ++ twoSides ++ call mapBoth 0 0 0 0 ++ call label 0 24 4 0 ++ call unmap 0 24 1 0)
-    (rule 0 ∷ allowed 9 ++ inhibit 0 ∷ allow 0 ∷ refused 16 ∷ [])
+    (rule 0 ∷ gaining (0 ∷ 0 ∷ 0 ∷ 0 ∷ 0 ∷ 1 ∷ 1 ∷ 0 ∷ 2 ∷ []) ++ inhibit 0 ∷ allow 2 ∷ refused 16 ∷ [])
     (holding 8 4 ∷ holding 25 4 ∷ holding 24 18 ∷ holding 9 18 ∷ [])
     ∷ []
 
 unfoldable pub MappingBoth : Type 0
-MappingBoth = map wordsOf mappingBoth ≡ mappingBoth
+MappingBoth = map outcomeOf mappingBoth ≡ mappingBoth
 
 -- ---- 02, Paper 4: mapped twice
 -- process 0 has 24, the beat buffer, open and maps it for reading twice, as two nested callbacks do
@@ -302,41 +291,41 @@ mappedTwice =
     -- one unmap: what comes to 24 still reaches process 0 (container 8). The second unmap ends the link: item 2 does not, and a third is 16
     check
     (nested ++ call unmap 0 24 0 0 ++ call label 0 24 1 0 ++ call unmap 0 24 0 0 ++ call label 0 24 2 0 ++ call unmap 0 24 0 0)
-    (allowed 8 ++ refused 16 ∷ [])
+    (gaining (0 ∷ 0 ∷ 0 ∷ 0 ∷ 0 ∷ 2 ∷ 0 ∷ 1 ∷ []) ++ refused 16 ∷ [])
     (holding 8 2 ∷ holding 24 6 ∷ [])
     -- both sorts: the two-way unmap ends the way back only. Item 1 of the process does not come to 24, item 2 of 24 comes to the process. No
     -- two-way mapping is left to unmap, and the one for reading is
     ∷ check
     (twoSorts ++ call unmap 0 24 1 0 ++ call label 0 8 1 0 ++ call label 0 24 2 0 ++ call unmap 0 24 1 0 ++ call unmap 0 24 0 0 ++ call label 0 24 3 0)
-    (allowed 7 ++ refused 16 ∷ allow 0 ∷ allow 0 ∷ [])
+    (gaining (0 ∷ 0 ∷ 0 ∷ 0 ∷ 0 ∷ 1 ∷ 2 ∷ []) ++ refused 16 ∷ allow 0 ∷ allow 1 ∷ [])
     (holding 8 6 ∷ holding 24 12 ∷ [])
     -- the unmap for reading leaves both links, and no further mapping for reading: a two-way one is none
     ∷ check
     (twoSorts ++ call unmap 0 24 0 0 ++ call label 0 8 1 0 ++ call label 0 24 2 0 ++ call unmap 0 24 0 0 ++ call unmap 0 24 2 0)
-    (allowed 7 ++ refused 16 ∷ refused 5 ∷ [])
+    (gaining (0 ∷ 0 ∷ 0 ∷ 0 ∷ 0 ∷ 2 ∷ 2 ∷ []) ++ refused 16 ∷ refused 5 ∷ [])
     (holding 8 6 ∷ holding 24 6 ∷ [])
     -- a child has the counts of its parent, and lowers its own: of two mappings it unmaps one, then the other
     ∷ check
     (nested ++ call fork 0 1 0 0 ++ call unmap 1 24 0 0 ++ call label 0 24 1 0 ++ call unmap 1 24 0 0 ++ call label 0 24 2 0)
-    (allowed 9)
+    (gaining (0 ∷ 0 ∷ 0 ∷ 0 ∷ 0 ∷ 0 ∷ 3 ∷ 0 ∷ 2 ∷ []))
     (holding 8 6 ∷ holding 9 2 ∷ [])
     -- an exit clears them: the next process 0 has none of either sort, and its one mapping ends by one unmap
     ∷ check
     (nested ++ call mapBoth 0 0 0 0 ++ call exit 0 0 0 0 ++ call start 0 0 0 0 ++ call unmap 0 24 0 0 ++ call unmap 0 24 1 0 ++ call openName 0 0 0 0 ++ call mapRead 0 0 0 0 ++ call unmap 0 24 0 0 ++ call label 0 24 1 0)
-    (allowed 7 ++ refused 16 ∷ refused 16 ∷ allowed 4)
+    (allowed 7 ++ refused 16 ∷ refused 16 ∷ gaining (0 ∷ 0 ∷ 0 ∷ 1 ∷ []))
     (holding 8 0 ∷ holding 24 2 ∷ [])
     -- 24 stays in use while a mapping is left: its name and its descriptor ended, the second unmap empties it
-    ∷ check (nested ++ call label 0 24 1 0 ++ call unlink 0 0 0 0 ++ call close 0 0 0 0 ++ call unmap 0 24 0 0) (allowed 8) (holding 24 2 ∷ holding 8 2 ∷ [])
-    ∷ check (nested ++ call label 0 24 1 0 ++ call unlink 0 0 0 0 ++ call close 0 0 0 0 ++ call unmap 0 24 0 0 ++ call unmap 0 24 0 0) (allowed 9) (holding 24 0 ∷ holding 8 2 ∷ [])
+    ∷ check (nested ++ call label 0 24 1 0 ++ call unlink 0 0 0 0 ++ call close 0 0 0 0 ++ call unmap 0 24 0 0) (gaining (0 ∷ 0 ∷ 0 ∷ 0 ∷ 2 ∷ 0 ∷ 0 ∷ 0 ∷ [])) (holding 24 2 ∷ holding 8 2 ∷ [])
+    ∷ check (nested ++ call label 0 24 1 0 ++ call unlink 0 0 0 0 ++ call close 0 0 0 0 ++ call unmap 0 24 0 0 ++ call unmap 0 24 0 0) (gaining (0 ∷ 0 ∷ 0 ∷ 0 ∷ 2 ∷ 0 ∷ 0 ∷ 0 ∷ 0 ∷ [])) (holding 24 0 ∷ holding 8 2 ∷ [])
     -- the write of what came over the link that is left is inhibited
     ∷ check
     (setRule 0x11 1 0 0 0 1 0 0 ++ nested ++ call device 0 1 0 0 ++ call unmap 0 24 0 0 ++ call label 0 24 1 0 ++ call write 0 1 0 0)
-    (rule 0 ∷ allowed 7 ++ inhibit 0 ∷ [])
+    (rule 0 ∷ gaining (0 ∷ 0 ∷ 0 ∷ 0 ∷ 0 ∷ 0 ∷ 2 ∷ []) ++ inhibit 0 ∷ [])
     (holding 8 2 ∷ holding 0 0 ∷ [])
     ∷ []
 
 unfoldable pub MappedTwice : Type 0
-MappedTwice = map wordsOf mappedTwice ≡ mappedTwice
+MappedTwice = map outcomeOf mappedTwice ≡ mappedTwice
 
 -- Process 0 maps 24 for reading 255 times, and once more: 17. It forks process 1: both have the count, 17 for either. After an unmap process 1 has
 -- room for one.
@@ -352,20 +341,15 @@ Filled =
     answerAll fresh filling .answers
     ≡ allow 0 ∷ allow 0 ∷ replicate 255 (allow 0) ++ (refused 17 ∷ allow 0 ∷ refused 17 ∷ refused 17 ∷ allow 0 ∷ allow 0 ∷ refused 17 ∷ [])
 
--- ---- 02, Paper 5: how far a call spread
+-- ---- 02, Paper 5: how far a call spread; the runs above state how many gained too, run B (`further`) and map both (`mappingBoth`) among them
 -- processes 0 and 1 map 24 for reading
 unfoldable pub heard : List ℕ
 heard = call start 0 0 0 0 ++ call start 1 0 0 0 ++ call create 0 0 0 24 ++ call openName 1 0 0 0 ++ call mapRead 0 0 0 0 ++ call mapRead 1 0 0 0
 
 unfoldable pub spreading : List Check
 spreading =
-    -- B
-    check
-    runB
-    (gaining (0 ∷ 0 ∷ 1 ∷ []) ++ rule 0 ∷ allow 0 ∷ allow 1 ∷ modify 0 3 1 ∷ refused 14 ∷ refused 1 ∷ [])
-    (holding 3 2 ∷ holding 1 0 ∷ [])
     -- a label of 24: it gains, and both processes do. The same again, and a read of what is held already: none
-    ∷ check
+    check
     (heard ++ call label 0 24 1 0 ++ call label 0 24 1 0 ++ call read 0 0 0 0)
     (gaining (0 ∷ 0 ∷ 0 ∷ 0 ∷ 0 ∷ 0 ∷ 3 ∷ 0 ∷ 0 ∷ []))
     (holding 8 2 ∷ holding 9 2 ∷ holding 24 2 ∷ [])
@@ -374,11 +358,6 @@ spreading =
     (heard ++ call label 0 8 1 0 ++ call label 0 8 2 0 ++ call write 0 0 0 0)
     (gaining (0 ∷ 0 ∷ 0 ∷ 0 ∷ 0 ∷ 0 ∷ 1 ∷ 1 ∷ 2 ∷ []))
     (holding 8 6 ∷ holding 9 6 ∷ holding 24 6 ∷ [])
-    -- map both: what lies on either side is gained on the other, process 0 and 25 on one, 24 and process 1 on the other
-    ∷ check
-    (twoSides ++ call mapBoth 0 0 0 0)
-    (gaining (0 ∷ 0 ∷ 0 ∷ 0 ∷ 0 ∷ 1 ∷ 1 ∷ 0 ∷ 2 ∷ 4 ∷ []))
-    (holding 8 6 ∷ holding 25 6 ∷ holding 24 6 ∷ holding 9 6 ∷ [])
     -- a forked child gains if its parent holds anything; emptying is no gain
     ∷ check
     (call start 0 0 0 0 ++ call fork 0 1 0 0 ++ call label 0 8 1 0 ++ call label 0 8 2 0 ++ call fork 0 2 0 0 ++ call exit 2 0 0 0 ++ call exit 0 0 0 0)
