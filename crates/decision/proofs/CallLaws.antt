@@ -16,7 +16,7 @@ use Rattle.flow.specs.Gained.{gained}
 use Rattle.flow.proofs.GainLaws.{gained-none}
 use Rattle.store.specs.declared.Plan.{Plan}
 use Rattle.sets.specs.Sets.{has, _∪_}
-use Rattle.store.specs.Maps.{Maps, withItems, itemsIn, view as mapsOf, itemsBy, MakesItems}
+use Rattle.store.specs.Maps.{Maps, itemsIn, view as mapsOf, itemsBy, MakesItems}
 use Rattle.store.proofs.Parts.{part-length}
 use Rattle.store.proofs.Writes.{sized-view}
 use Rattle.tracker.specs.declared.Call.{Call as Bytes}

@@ -1,12 +1,12 @@
 -- A code tells its answer: its bytes are the word and the numbers. The answer to an outcome, and that there is no other.
-use Prim.Native.Nat.{ℕ, _+_, _*_, _/_, _%_, _^_, _≤_, _<_}
+use Prim.Native.Nat.{ℕ, _+_, _*_, _/_, _%_, _^_, _<_}
 use native.Mathlib.Omega.{arith}
 use mathlib.Core.Path.{_≡_, refl, sym, ap, ap₂, _∙_}
 use lib.ListN.{length}
 use Rattle.sets.specs.Sets.{members, without, lowest, count}
-use Rattle.sets.proofs.Members.{count-le, count-less, lowest-has}
-use Rattle.sets.proofs.Rising.{members-none, members-count}
-use Rattle.flow.specs.Verdicts.{Outcome, refuses, loads, allows, inhibits, modifies, gainedBy, Answer as Word, refused, rule, allow, inhibit, modify, answerOf}
+use Rattle.sets.proofs.Members.{count-less, lowest-has}
+use Rattle.sets.proofs.Rising.{members-none, members-count, members-le}
+use Rattle.flow.specs.Verdicts.{Outcome, refuses, loads, allows, inhibits, modifies, gainedBy, refused, inhibit, answerOf}
 use Rattle.decision.specs.declared.Answer.{Answer}
 use Rattle.decision.specs.declared.Answer.the-variants.{Refused, Loaded, Allow, Inhibit, Modify}
 use Rattle.decision.specs.Answers.{wordOf, gainedIn}
@@ -98,11 +98,8 @@ four w n c g lw ln lc lg =
     ap₂ (λ (i j : ℕ). wordBy i j (x / 65536 % 256) (x / 16777216 % 256)) (omega arith) (omega arith) ∙ ap₂ (wordBy w n) (omega arith) (omega arith)
 
 -- how many gained is a byte
-pub size-le : (g : ℕ) → g < 2 ^ 64 → length (members g) ≤ 64
-size-le g h = rw (members-count g h) (count-le g h)
-
 few : (g : ℕ) → g < 2 ^ 64 → length (members g) < 256
-few g h = omega (arith, size-le g h)
+few g h = omega (arith, members-le g h)
 
 pub codes-tell : CodesTell
 unfolding CodesTell inBytes wordOf codeOf wordBy wordFrom

@@ -28,9 +28,9 @@ use Rattle.flow.proofs.Rows.{target-lt, row-of, Rows}
 use Rattle.store.proofs.Packing.{mapsFrom, waysFrom, countsFrom, packed-lt}
 use Rattle.flow.proofs.Entries.{Each}
 use Rattle.decision.specs.declared.Answer.{Answer}
-use Rattle.decision.specs.declared.Answer.the-variants.{Refused, Allow, Inhibit}
+use Rattle.decision.specs.declared.Answer.the-variants.{Allow}
 use Rattle.decision.specs.View.{view}
-use Rattle.decision.specs.Answers.{wordOf, Sound, AnswersRecord}
+use Rattle.decision.specs.Answers.{Sound, AnswersRecord}
 use Rattle.decision.specs.Logs.{inBytes}
 use Rattle.decision.specs.Chains.{Numbers, Holdable, ofBytes, ChainExists}
 use Rattle.decision.proofs.CodeLaws.{answerIs, word-is, gained-is, says-refused, says-inhibited, refused-says}

@@ -4,13 +4,13 @@
 use Prim.Native.Nat.{ℕ, zero, suc, _^_, _<_}
 use native.Mathlib.Omega.{arith}
 use native.Mathlib.Nat.{mod-lt}
-use mathlib.Core.Path.{_≡_, refl, sym, ap, ap₂, subst, _∙_}
+use mathlib.Core.Path.{_≡_, refl, sym, ap₂, subst}
 use mathlib.Core.List.{List, [], _∷_, map}
 use lib.ListN.{getD}
 use lib.Pow.{pow-pos}
 use Rattle.flow.specs.Box.{Rule, State}
 use Rattle.flow.specs.Records.{callFrom, Reading, aCall, reading, recordsOf}
-use Rattle.flow.specs.Verdicts.{Answer as Word, outcomeOf, outcome, answerOf, stateAfter, answerAll, runLog}
+use Rattle.flow.specs.Verdicts.{Answer as Word, outcomeOf, outcome, stateAfter, answerAll, runLog}
 use Rattle.flow.proofs.Keeping.{Invariant}
 use Rattle.rules.specs.Stored.{substituteField, fieldAt, substituteAt, ruleAt, countOf, rulesOf}
 use Rattle.rules.proofs.StoredLaws.{count-le, rules-length}

@@ -1,15 +1,15 @@
 -- Which containers gain, by the items before and after (02, Paper 5).
-use Prim.Native.Nat.{ℕ, _+_, _^_, _≤_, _<_}
+use Prim.Native.Nat.{ℕ, _^_, _<_}
 use native.Mathlib.Omega.{arith}
-use mathlib.Core.Path.{_≡_, refl, sym, ap, ap₂, _∙_}
-use mathlib.Core.Bool.{Bool, true, false, not, _&&_, _||_}
+use mathlib.Core.Path.{_≡_, refl, sym, ap, _∙_}
+use mathlib.Core.Bool.{Bool, true, false, not, _&&_}
 use mathlib.Core.List.{List}
 use lib.Dec.{eqb}
 use lib.ListN.{getD}
-use borrow.Author.Tests.{eqb-true, eq-eqb, ltb-true}
-use Rattle.sets.specs.Sets.{has, those, count, _∪_}
-use Rattle.sets.proofs.Members.{those-has, those-lt, none-has, union-has, has-lt, has-below, lt-pow, set-ext, same-set, count-le}
-use Rattle.sets.proofs.Rising.{members-count}
+use borrow.Author.Tests.{not-true, not-false, eqb-true, eq-eqb}
+use Rattle.sets.specs.Sets.{has, _∪_}
+use Rattle.sets.proofs.Members.{those-has, those-lt, none-has, union-has, has-lt, has-below, lt-pow, set-ext, same-set}
+use Rattle.sets.proofs.Rising.{members-le}
 use Rattle.flow.specs.Lists.{someBelow}
 use Rattle.flow.specs.Gained.{hasMore, gained}
 use Rattle.flow.specs.Consequences.{GainedExactly, GainedAtMost}
@@ -17,14 +17,6 @@ use Rattle.flow.proofs.Bools.{by, no-both, and-l, and-r, and-i, or-elim
 use Rattle.flow.proofs.TableLaws.{none-of, some-at}
 
 -- ---- one container
-untrue : (b : Bool) → not b ≡ true → b ≡ false
-untrue true e = sym e
-untrue false e = refl
-
-unfalse : (b : Bool) → not b ≡ false → b ≡ true
-unfalse true e = refl
-unfalse false e = sym e
-
 -- it lacked nothing that it holds
 pub more-none : (x y : ℕ) → ((i : ℕ) → has y i ≡ true → has x i ≡ true) → hasMore x y ≡ false
 unfolding hasMore
@@ -34,7 +26,7 @@ more-none x y less =
 pub lacked-none : (x y : ℕ) → hasMore x y ≡ false → (i : ℕ) → has y i ≡ true → has x i ≡ true
 unfolding hasMore
 lacked-none x y e i h =
-    let s : x ∪ y ≡ x = eqb-true (x ∪ y) x (unfalse (eqb (x ∪ y) x) e) in
+    let s : x ∪ y ≡ x = eqb-true (x ∪ y) x (not-false (eqb (x ∪ y) x) e) in
     ap (λ (z : ℕ). has z i) (sym s) ∙ union-has x y i ∙ or-r (has x i) _ h
 
 -- it holds an item that it lacked
@@ -44,7 +36,7 @@ more-some x y i h k = by (hasMore x y) (λ e. e) (λ e. no-both (lacked-none x y
 pub some-more : (x y : ℕ) → hasMore x y ≡ true → (i : ℕ) × (has y i ≡ true) × (has x i ≡ false)
 some-more x y e =
     by (someBelow y lacks)
-    (λ h. let z = some-at y lacks h in (z .0, and-l (has y (z .0)) _ (z .2), untrue (has x (z .0)) (and-r (has y (z .0)) _ (z .2))))
+    (λ h. let z = some-at y lacks h in (z .0, and-l (has y (z .0)) _ (z .2), not-true (has x (z .0)) (and-r (has y (z .0)) _ (z .2))))
     (λ h. no-both e (more-none x y (λ i m. by (has x i) (λ k. k) (λ k. no-both (and-i (has y i) (not (has x i)) m (ap not k)) (none-of y lacks i h (has-below y y i (lt-pow y) m))))))
   where
     lacks : ℕ → Bool
@@ -78,7 +70,4 @@ gained-exactly b a c = (
 
 pub gained-at-most : GainedAtMost
 unfolding GainedAtMost
-gained-at-most b a = le-of-eq′ (members-count (gained b a) (gained-lt b a)) (count-le (gained b a) (gained-lt b a))
-  where
-    le-of-eq′ : {x y : ℕ} → x ≡ y → y ≤ 64 → x ≤ 64
-    le-of-eq′ e h = rw e h
+gained-at-most b a = members-le (gained b a) (gained-lt b a)

@@ -1,22 +1,21 @@
 -- Where what gains lies, that without a gain no rule is broken anew, and what a fork tells (02, Paper 5).
-use Prim.Native.Nat.{ℕ, _+_, _^_, _<_}
+use Prim.Native.Nat.{ℕ, _<_}
 use native.Mathlib.Omega.{arith}
 use mathlib.Core.Path.{_≡_, refl, sym, ap, _∙_}
-use mathlib.Core.Bool.{Bool, true, false, not, _&&_, _||_}
+use mathlib.Core.Bool.{true, false, not}
 use mathlib.Core.List.{List}
-use mathlib.Core.Option.{none}
 use lib.Dec.{eqb}
 use lib.ListN.{getD}
 use borrow.Author.Tests.{eqb-true, eq-eqb}
-use Rattle.sets.specs.Sets.{has, only, _∪_}
-use Rattle.sets.proofs.Members.{none-has, only-has, only-lt, union-has, has-lt, set-ext}
+use Rattle.sets.specs.Sets.{has, only}
+use Rattle.sets.proofs.Members.{none-has, only-has, only-lt, union-has, set-ext}
 use Rattle.sets.proofs.Unions.{none-union}
 use Rattle.flow.specs.Box.{containerOf, Tables, State, itemsOf, holds}
-use Rattle.flow.specs.Links.{reach, given, givenFrom, used}
+use Rattle.flow.specs.Links.{reach, givenFrom}
 use Rattle.flow.specs.MapBoth.{inSequence}
-use Rattle.flow.specs.Calls.{fork, Call, Flow, still, gift, arrival, exchange, copy, clear, Change, flowBy, change, moved, after}
+use Rattle.flow.specs.Calls.{fork, Call, Flow, still, gift, arrival, exchange, copy, clear, flowBy, change, moved, after}
 use Rattle.flow.specs.Rules.{lowestBroken}
-use Rattle.flow.specs.Gained.{hasMore, gained}
+use Rattle.flow.specs.Gained.{hasMore}
 use Rattle.flow.specs.Verdicts.{gainedFrom}
 use Rattle.flow.specs.Contents.{stateAt}
 use Rattle.flow.specs.Consequences.{GainedExactly, NoGainBreaksNone, givenTo, GainedInReach, ForkCopies, ForkTells}
@@ -26,7 +25,7 @@ use Rattle.flow.proofs.Moves.{inList, movedIn, given-has, copy-holds, c
 use Rattle.flow.proofs.After.{after-held}
 use Rattle.flow.proofs.Keeping.{state-kept}
 use Rattle.flow.proofs.Fork.{fork-copies}
-use Rattle.flow.proofs.GainLaws.{more-none, gained-lt, gained-at, gained-none, none-gained, gained-exactly}
+use Rattle.flow.proofs.GainLaws.{gained-lt, gained-at, gained-none, none-gained, gained-exactly}
 
 -- ---- rules
 -- a state that adds nothing to s anywhere

@@ -1,12 +1,12 @@
 -- A name renamed to itself (01, The records): nothing changes, in every state.
-use Prim.Native.Nat.{ℕ, zero, suc, _<_}
-use mathlib.Core.Path.{_≡_, refl, sym, ap, _∙_}
+use Prim.Native.Nat.{ℕ, zero, suc}
+use mathlib.Core.Path.{_≡_, refl, sym, ap}
 use mathlib.Core.Bool.{Bool, true, false, not, _&&_}
 use mathlib.Core.List.{List, [], _∷_}
 use lib.ListN.{length, getD, set}
 use Rattle.flow.specs.Box.{closed, name, Tables, State}
 use Rattle.flow.specs.Links.{used}
-use Rattle.flow.specs.Calls.{rename, Call, withNames, tablesBy, flowBy, change, moved, ended, itemsAfter, after}
+use Rattle.flow.specs.Calls.{rename, withNames, tablesBy, flowBy, change, moved, ended, itemsAfter, after}
 use Rattle.flow.proofs.TableLaws.{is-table}
 
 -- an entry that is replaced, and put back

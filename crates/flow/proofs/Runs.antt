@@ -26,7 +26,7 @@ use Rattle.flow.proofs.Renaming.{renamed-itself}
 use Rattle.flow.specs.AtOnce.{movedAtOnce, afterAtOnce, verdictAtOnce, outcomeOfCallAtOnce, outcomeOfAtOnce, outcomeAtOnce, stateAfterAtOnce, nextAtOnce, torn, Torn, NeverTorn, FormsDiffer}
 
 -- J: its last record meets the state of the others, in which it is allowed, and a name renamed to itself changes none. Computed, the items of
--- both states take as long as all other starred runs together.
+-- both states take longer than all other starred runs together.
 abbrev met : State
 met = runLog fresh filed .state
 

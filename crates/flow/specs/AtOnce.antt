@@ -11,7 +11,6 @@ use Rattle.flow.specs.Box.{containerCount, forbid, Rule, Tables, State, 
 use Rattle.flow.specs.Links.{givenFrom, linked}
 use Rattle.flow.specs.MapBoth.{atOnce}
 use Rattle.flow.specs.Calls.{Kind, read, write, mapBoth, Call, Flow, still, gift, arrival, exchange, copy, clear, Change, change, moved, after}
-use Rattle.flow.specs.Rules.{lowestBroken}
 use Rattle.flow.specs.Records.{Reading, unreadable, aCall, aRule, reading}
 use Rattle.flow.specs.Refusals.{callTests}
 use Rattle.flow.specs.Verdicts.{Outcome, refuses, loads, allows, inhibits, modifies, verdictAt, outcomeOf, outcome, allow, inhibit, answerOf, answer, withRule, next, runLog}

@@ -10,7 +10,7 @@ use lib.ListN.{length}
 use lib.Count.{ones}
 use borrow.Author.Tests.{eq-eqb, ne-eqb}
 use Rattle.sets.specs.Sets.{has, bit, thoseFrom, those, risingFrom, rising, members, without, count, lowest}
-use Rattle.sets.proofs.Members.{those-has, those-lt, without-has, none-has, has-lt, set-ext, ones-more, lowest-least}
+use Rattle.sets.proofs.Members.{those-has, those-lt, without-has, none-has, has-lt, set-ext, ones-more, lowest-least, count-le}
 
 -- k stands at the front where f holds of it, and is passed over where it does not
 pub rising-taken : (n k : ℕ) (f : ℕ → Bool) → f k ≡ true → risingFrom (suc n) k f ≡ k ∷ risingFrom n (suc k) f
@@ -81,3 +81,6 @@ long (suc n) k f = go (long n (suc k) f) (f k) refl ∙ sym (ones-more n k f)
 pub members-count : (x : ℕ) → x < 2 ^ 64 → length (members x) ≡ count x
 unfolding members rising count those
 members-count x h = long 64 0 (has x) ∙ ap ones (sym (set-ext x (those (has x)) h (those-lt (has x)) (λ i l. sym (those-has (has x) i l))))
+
+pub members-le : (x : ℕ) → x < 2 ^ 64 → length (members x) ≤ 64
+members-le x h = rw (members-count x h) (count-le x h)

@@ -12,10 +12,9 @@ use lib.ListN.{getD, length, set, length-set}
 use Rattle.sets.specs.Sets.{has, only, without, lowest, _∪_}
 use Rattle.sets.proofs.Members.{itself, without-lt, without-at, without-other, without-part, none-has, has-lt, only-has, only-lt, union-has, union-lt, same-set, member}
 use Rattle.sets.proofs.Unions.{union-assoc, union-none, none-union}
-use Rattle.flow.specs.Lists.{table}
 use Rattle.flow.specs.Links.{given}
 use Rattle.flow.specs.Gained.{hasMore, gained}
-use Rattle.flow.proofs.Bools.{by, no-both, and-l, and-r, or-elim, or-l, or-r, same, chosen-l, chosen-r}
+use Rattle.flow.proofs.Bools.{by, no-both, or-elim, or-l, or-r, same, chosen-l, chosen-r}
 use Rattle.flow.proofs.TableLaws.{table-at, is-table}
 use Rattle.flow.proofs.Moves.{inList, given-at, given-has}
 use Rattle.flow.proofs.GainLaws.{more-none, more-some, some-more, gained-at, gained-lt, gained-is}
@@ -58,7 +57,6 @@ give-more y x e = sym (ap not (ne-eqb _ _ e))
 set-others : (l l′ : List ℕ) (i v n : ℕ) → l′ ≡ set l i n → i ≡ v → (c : ℕ) → (c ≡ v → ⊥) → getD l′ c 0 ≡ getD l c 0
 set-others l l′ i v n e k c d = rw e (getD-set-other l i c n 0 (λ z. d (z ∙ k)))
 
--- a container that lacked nothing is taken out, another stays
 -- the set x where i is to stay in it, else x without i
 unfoldable pub keepIf : Bool → ℕ → ℕ → ℕ
 keepIf stays x i = elim stays [ true ↦ x | false ↦ without x i ]

@@ -48,6 +48,9 @@ pub const ITEMS_AT: usize = 1;
 // For each process the containers that it maps, and those of them that it maps both ways.
 pub const MAPS_AT: usize = 65;
 
+// From here on those of the processes 8 to 15.
+pub const HIGH_AT: usize = 73;
+
 pub const WAYS_AT: usize = 81;
 
 // For each process eight words with a byte for each container: its counts for reading, then those both ways.

@@ -2,6 +2,7 @@
 use crate::limits::ALL_PROCESSES;
 use crate::limits::CONTAINERS;
 use crate::limits::DEVICES;
+use crate::limits::HIGH_AT;
 use crate::limits::MAPS_AT;
 use crate::limits::NONE;
 use crate::limits::WAYS_AT;
@@ -19,9 +20,6 @@ ghost use Rattle.store.specs.Search.{fedFrom, comesNext, lowHalf, highHa
 const LOW_HALF: u64 = 0xFF;
 
 const HIGH_HALF: u64 = 0xFF00;
-
-// Where the sets that the processes of the high half map begin.
-const HIGH_AT: usize = 73;
 
 // The lowest process of the set left that a container of the set x feeds, or 64.
 fn first_fed(rows: &[u64], left: u64, x: u64) -> u8

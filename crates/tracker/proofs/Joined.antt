@@ -177,6 +177,9 @@ gifts-alone m q n =
     let p : Plan = planAt m q (kindOf (q .kind)) in
     ap (λ (e : ℕ). record { empty = e; given = p .given; to = p .to; given2 = p .given2; to2 = p .to2 }) (kind-rest (λ o. planAt m q o .empty) ((17 ∷ []) ∷ []) refl _ (tt, n))
 
+pub both-no-fork : (n : ℕ) → n ≡ 12 → n ≡ 17 → ⊥
+both-no-fork n e f = let y : ⊥ = omega (arith, e, f) in y
+
 -- that of a fork replaces what the child holds
 pub copies : (m : Maps) (q : Call) → q .kind ≡ 17 → (8 + q .a) % 64 ≡ containerOf (q .a) → (x : ℕ) → x ≡ planAt m q (kindOf (q .kind)) .given
     → replacing ((8 + q .a) % 64) x ≡ planAt m q (kindOf (q .kind))

@@ -1,6 +1,6 @@
 -- `copy_in` plans what a forked child is given, judges it and makes the fork.
 use native.Mathlib.Omega.{arith}
-use mathlib.Core.Path.{_≡_, refl, sym, ap, _∙_}
+use mathlib.Core.Path.{refl, sym, ap, _∙_}
 use Rattle.flow.specs.Calls.{fork, kindNumber}
 use Rattle.flow.specs.Refusals.{ranges}
 use Rattle.store.specs.declared.Plan.{Plan}

@@ -1,9 +1,7 @@
 -- `exchange_in` plans both gifts of a map both, judges them and makes the call.
-use native.Mathlib.Omega.{arith}
-use mathlib.Core.Path.{_≡_, sym, ap, _∙_}
-use Prim.Native.Nat.{ℕ}
+use mathlib.Core.Path.{sym, ap, _∙_}
 use Rattle.store.specs.Maps.{gifts}
-use Rattle.tracker.proofs.Joined.{gifts-alone}
+use Rattle.tracker.proofs.Joined.{both-no-fork, gifts-alone}
 use Rattle.decision.specs.declared.Monitor.{Monitor}
 use Rattle.decision.specs.View.{maps, monitor}
 use Rattle.decision.proofs.CallLaws.{gives-stopped, gives-made, passes-made}
@@ -14,9 +12,6 @@ use Rattle.decision.proofs.inplace.exchange_in.Tie as tie
 -- the monitor that was met
 abbrev met : tie.Start → Monitor
 met s = monitor (s .args .words .now) (s .args .descriptors .now) (s .args .names .now) (s .args .sets .now) (s .args .fields .now)
-
-no-fork : (n : ℕ) → n ≡ 12 → n ≡ 17 → ⊥
-no-fork n e f = let y : ⊥ = omega (arith, e, f) in y
 
 returns : tie.Need-returns
 returns c =
@@ -30,7 +25,7 @@ finish-exchange-requires c κs =
     let t = m .before .before in
     let p = t .before .before .before .before in
     let s = p .before .before in
-    (passes-made _ _ _ _ (s .pre .0) _ (ap gifts (p .exchange-of .ensures) ∙ gifts-alone _ _ (no-fork _ (s .pre .1))) _ _ (m .make-items .ensures), s .pre .1)
+    (passes-made _ _ _ _ (s .pre .0) _ (ap gifts (p .exchange-of .ensures) ∙ gifts-alone _ _ (both-no-fork _ (s .pre .1))) _ _ (m .make-items .ensures), s .pre .1)
 
 returns-2 : tie.Need-returns-2
 returns-2 c =
@@ -39,7 +34,7 @@ returns-2 c =
     let k = t .before .before in
     let p = k .before .before in
     let s = p .before .before in
-    gives-made (met s) _ _ (p .exchange-of .ensures) _ (k .first-anew .ensures) (t .if1 .left ∙ t .before .count .ensures) _ (ap gifts (p .exchange-of .ensures) ∙ gifts-alone (maps (met s)) (s .args .q) (no-fork _ (s .pre .1))) _ _ (m .make-items .ensures) _ _ _ (c .finish-exchange .ensures)
+    gives-made (met s) _ _ (p .exchange-of .ensures) _ (k .first-anew .ensures) (t .if1 .left ∙ t .before .count .ensures) _ (ap gifts (p .exchange-of .ensures) ∙ gifts-alone (maps (met s)) (s .args .q) (both-no-fork _ (s .pre .1))) _ _ (m .make-items .ensures) _ _ _ (c .finish-exchange .ensures)
 
 pub exchange-in-spec : {M : Type 1} → statement M
 exchange-in-spec = tie.close (tie.spec (λ c κs. c .before .pre) (λ c κs. search needs) (λ c κs. search needs) returns (λ c κs. search needs) finish-exchange-requires returns-2)

@@ -1,5 +1,4 @@
 -- `give_in` makes a call by the sort of its plan.
-use borrow.Author.Needs.{needs}
 use Rattle.decision.proofs.inplace.give_in.Statement.{statement}
 use Rattle.decision.proofs.inplace.give_in.Tie as tie
 

@@ -1,11 +1,12 @@
 -- `size` counts the members.
 use Prim.Native.Nat.{ℕ, _+_}
 use native.Mathlib.Omega.{arith}
-use mathlib.Core.Path.{_≡_, refl, sym, ap, _∙_}
+use mathlib.Core.Path.{_≡_, sym, ap, _∙_}
 use lib.ListN.{length}
 use Rattle.sets.specs.Sets.{count, members}
 use Rattle.sets.proofs.Members.{count-none, count-le}
-use Rattle.decision.proofs.CodeLaws.{size-none, size-more, size-le}
+use Rattle.sets.proofs.Rising.{members-le}
+use Rattle.decision.proofs.CodeLaws.{size-none, size-more}
 use borrow.Author.Needs.{needs}
 use Rattle.decision.proofs.logs.size.Statement.{statement}
 use Rattle.decision.proofs.logs.size.Tie as tie
@@ -22,7 +23,7 @@ returns-3 c =
     let s = r .before .before in
     let e : 1 + count (r .rest .result) ≡ count (r .rest .result) + 1 = omega arith in
     let f : 1 + c .count .result ≡ length (members (s .args .x)) = ap (λ (n : ℕ). 1 + n) (c .count .ensures) ∙ e ∙ size-more (s .args .x) (r .rest .result) (s .fits .x .fits) (r .before .if1 .left) (r .rest .ensures) in
-    (f, rw f (size-le (s .args .x) (s .fits .x .fits)))
+    (f, rw f (members-le (s .args .x) (s .fits .x .fits)))
 
 pub size-spec : {M : Type 1} → statement M
 size-spec =

@@ -1,7 +1,6 @@
 -- `fed` tries the low half, then the high one.
 use Rattle.store.specs.Maps.{part}
 use Rattle.store.proofs.Searching.{found-low, found-high}
-use borrow.Author.Needs.{needs}
 use Rattle.store.proofs.spread.fed.Statement.{statement}
 use Rattle.store.proofs.spread.fed.Tie as tie
 

@@ -1,7 +1,6 @@
 -- `fed_by` is what is in both sets.
 use native.Mathlib.Omega.{arith}
 use mathlib.Core.Path.{ap₂}
-use mathlib.Core.List.{List}
 use lib.ListN.{getD}
 use Prim.Native.Nat.{ℕ}
 use Rattle.sets.specs.Sets.{_∩_}

@@ -1,5 +1,4 @@
 -- `fed_half` tries the rows of a half where one may be fed.
-use native.Mathlib.Omega.{arith}
 use Rattle.sets.specs.Sets.{_∩_}
 use Rattle.store.specs.Maps.{part}
 use Rattle.store.proofs.Searching.{half-none, half-lt}

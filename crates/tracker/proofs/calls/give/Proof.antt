@@ -1,5 +1,4 @@
 -- `give` makes a call by the sort of its plan.
-use borrow.Author.Needs.{needs}
 use Rattle.tracker.proofs.calls.give.Statement.{statement}
 use Rattle.tracker.proofs.calls.give.Tie as tie
 

@@ -1,6 +1,6 @@
 -- `make_copy` gives a forked child what its parent holds, then makes the rest of the fork.
 use native.Mathlib.Omega.{arith}
-use mathlib.Core.Path.{_≡_, refl, ap, _∙_}
+use mathlib.Core.Path.{refl, ap, _∙_}
 use Rattle.flow.specs.Calls.{fork, kindNumber}
 use Rattle.flow.specs.Refusals.{ranges}
 use Rattle.store.specs.declared.Plan.{Plan}

@@ -2,7 +2,6 @@
 use native.Mathlib.Omega.{arith}
 use mathlib.Core.Path.{_≡_, sym, ap, _∙_}
 use lib.ListN.{length}
-use borrow.Author.Tests.{not-true}
 use Rattle.store.specs.Maps.{Maps, view}
 use Rattle.store.proofs.Parts.{part-length}
 use Rattle.store.proofs.Writes.{sized-view}
