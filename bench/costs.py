@@ -217,16 +217,21 @@ def growth_lines(found: Costs) -> List[str]:
     return lines[1:]
 
 
+def more_or_fewer(number: int) -> str:
+    """How many instructions something takes beside something else."""
+    return f"{number:,} more" if number >= 0 else f"{-number:,} fewer"
+
+
 def stopped_text(found: Costs) -> str:
-    """The stopped writes beside the same writes with no rules."""
+    """The stopped writes beside the same writes with no rules, which give what they are to give."""
     inhibited, diverted = (
-        [f"{beside_writes(found, state, name).proved:,}" for state in STATES]
+        [more_or_fewer(beside_writes(found, state, name).proved) for state in STATES]
         for name in (INHIBITED, DIVERTED)
     )
     return (
-        "In the program an inhibited write takes "
-        f"{' (small state) and '.join(inhibited)} (worst state) more than the same write with 0 "
-        f"rules; a diverted write takes {' and '.join(diverted)} more than two of them."
+        "Beside the same write with 0 rules, an inhibited write takes "
+        f"{' (small state) and '.join(inhibited)} (worst state) instructions in the program; beside "
+        f"two of them, a diverted write takes {' and '.join(diverted)}."
     )
 
 

@@ -258,8 +258,7 @@ static unsigned gained(const struct pomtvia_monitor *m, const uint64_t *before)
     return n;
 }
 
-/* Fewer links and other items, so that calls reach some containers and some of these gain; a dead process holds nothing, as in every
- * monitor that calls lead to; no rule. */
+/* Fewer links and other items, so that calls reach some containers and some of these gain; no rule. */
 static void thin(struct pomtvia_monitor *m)
 {
     unsigned links = below(6), items = below(4);
@@ -272,8 +271,6 @@ static void thin(struct pomtvia_monitor *m)
             *set &= any();
         if (below(4) == 0)
             *set = below(2) ? 0 : 0xFFFFFFFFFFFFFFFFu;
-        if (c >= POMTVIA_FIRST_PROCESS && c < POMTVIA_FIRST_FILE && !(m->words[0] >> (c - POMTVIA_FIRST_PROCESS) & 1))
-            *set = 0;
     }
     m->fields[128] = 0;
 }
@@ -464,7 +461,7 @@ int main(int argc, char **argv)
         if (numbers[number])
             printf("with %u: %lu\n", number, numbers[number]);
     for (unsigned word = POMTVIA_ALLOW; word <= POMTVIA_MODIFY; word += POMTVIA_MODIFY - POMTVIA_ALLOW)
-        printf("gained by none %lu, by one %lu, by more %lu\n", gains[word][0], gains[word][1], gains[word][2]);
+        printf("%s: gained by none %lu, by one %lu, by more %lu\n", word == POMTVIA_ALLOW ? "allow" : "modify", gains[word][0], gains[word][1], gains[word][2]);
     free(l);
     free(was);
     return 0;

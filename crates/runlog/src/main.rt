@@ -47,7 +47,7 @@ fn put_line(out: &mut [u8], at: usize, word: &[u8], n: u32) -> usize {
     put(out, next, b'\n')
 }
 
-// Puts a number from 10 on, and ends the line: most often it has two digits.
+// Puts a number from 10 on, and ends the line: a count of containers has two digits at most.
 fn put_tens(out: &mut [u8], at: usize, n: u32) -> usize {
     if 99 < n {
         return put_line(out, at, b"", n);

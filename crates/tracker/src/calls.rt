@@ -35,7 +35,8 @@ pub struct Made {
     pub gained: u64,
 }
 
-// Makes the rest of a call that is not refused, once its gifts are made: what it empties, its tables, what it ends the use of.
+// Makes the rest of a call that is not refused: what it empties, its tables, what it ends the use of. So it promises of every kind; calls that
+// give have the functions below.
 pub fn finish(words: &mut [u64; 353], descriptors: &mut [u8; 512], names: &mut [u8; 128], q: Call)
     requires { ⌜ Passes (now words) (now descriptors) (now names) q ⌝ }
     ensures { λ _. ⌜ mapsAfter words descriptors names ≡ finished (mapsBefore words descriptors names) q ⌝ }

@@ -243,7 +243,7 @@ pub fn next(log: &[u8], at: usize) -> usize {
     unsafe { c::pomtvia_next(log.as_ptr(), log.len(), at) }
 }
 
-/// The code of a log's answers, one after the other.
+/// The answers that the codes of a log stand for, one after the other; `None` for a number that is no code.
 pub fn answers(codes: &[u32]) -> impl Iterator<Item = Option<Answer>> + '_ {
     codes.iter().map(|&code| Answer::from_code(code))
 }
