@@ -1,5 +1,7 @@
 // Runs calls on the arrays of a fresh tracker where they lie, without a copy: what bench/run measures. Standard input is as test_calls reads it,
 // and a line is written for each call, 0 or the refusal's number; at the end one more, the set of the containers that gained by the last call.
+#![tactic(auto)]
+
 use libc::{STDIN_FILENO, STDOUT_FILENO};
 use tracker::calls::work;
 use tracker::{Call, Tracker};

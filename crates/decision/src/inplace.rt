@@ -57,7 +57,7 @@ pub fn renew(
 }
 
 // What a stopped call came to: the container that it was diverted to, or 64, and the containers that gained.
-#[derive(Drop)]
+#[derive(Clone, Copy)]
 pub struct Diverted {
     pub to: u8,
     pub gained: u64,
@@ -104,7 +104,7 @@ fn stop_in(
 }
 
 // What a call that can give came to: the rule that stops it, or 32, and the containers that gained.
-#[derive(Drop)]
+#[derive(Clone, Copy)]
 pub struct Gift {
     pub rule: u8,
     pub gained: u64,

@@ -1,4 +1,6 @@
 // The decision point: the rules above the tracker, verdicts, and what a record gets (document 01, What a record gets).
+#![tactic(auto)]
+
 pub mod inplace;
 pub mod logs;
 
@@ -13,7 +15,7 @@ use tracker::{Call, Tracker, queries};
 
 // A tracker with its rules: what document 01 calls a tracker. Its layout is C's, for callers that keep it in their own memory.
 #[repr(C)]
-#[derive(Drop)]
+#[derive(Clone, Copy)]
 pub struct Monitor {
     pub words: [u64; 353],
     pub descriptors: [u8; 512],
@@ -23,7 +25,7 @@ pub struct Monitor {
 }
 
 // What a record gets. Allow and modify end with the set of the containers that gained an item (document 02, Paper 5).
-#[derive(Drop)]
+#[derive(Clone, Copy)]
 pub enum Answer {
     Refused(u8),
     Loaded(u8),
@@ -32,14 +34,14 @@ pub enum Answer {
     Modify(u8, u8, u64),
 }
 
-#[derive(Drop)]
+#[derive(Clone, Copy)]
 pub struct Answered {
     pub answer: Answer,
     pub monitor: Monitor,
 }
 
 // What a log gets: the number of its answers, or 13 where the lent slice is shorter; and the monitor after it.
-#[derive(Drop)]
+#[derive(Clone, Copy)]
 pub struct RunResult {
     pub reply: Reply,
     pub monitor: Monitor,

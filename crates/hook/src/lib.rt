@@ -1,6 +1,8 @@
 // What a kernel links: functions for C on a `struct pomtvia_monitor` of the caller's (embed/pomtvia.h). They lend its arrays where they lie
 // and copy nothing. Beside them the hook of document 01 (The form for each place): the kernel keeps one monitor and lends it for each call;
 // the covered step's result is stored back into it. An answer is its code.
+#![tactic(auto)]
+
 pub mod lent;
 
 ghost use Rattle.logreader.specs.Log.{end_after};
@@ -129,7 +131,7 @@ pub extern "C" fn pomtvia_next(log: &[u8], at: usize) -> usize
 }
 
 // The code of an answer, and the monitor after it.
-#[derive(Drop)]
+#[derive(Clone, Copy)]
 pub struct Settled {
     pub code: u32,
     pub monitor: Monitor,

@@ -1,17 +1,19 @@
 // A log reader (document 01, The form for each place): a reference to its log and a place in it.
+#![tactic(auto)]
+
 ghost use Rattle.std.specs.Prelude.{◌≡◌};
 ghost use Rattle.logreader.specs.Log.{record_at, end_after};
 
 use records::extent;
 
-#[derive(Drop)]
+#[derive(Clone, Copy)]
 pub struct LogReader<'a> {
     pub log: &'a [u8],
     pub at: usize,
 }
 
 // What stands at a place of a log: a record, with the place after it, or the log's end.
-#[derive(Drop)]
+#[derive(Clone, Copy)]
 pub enum Found {
     Record(usize),
     End,

@@ -1,4 +1,6 @@
 // The record at the front of a byte slice (document 01, The records), and how far it goes.
+#![tactic(auto)]
+
 ghost use Rattle.std.specs.Prelude.{◌≡◌, [], ◌∷◌};
 ghost use Rattle.flow.specs.Lists.{table_from, first_that, refusal_from};
 ghost use Rattle.flow.specs.Records.{byte_at, stated_length, cut_short, known_tag, tag_length, number_from, frame_tests, reading};
@@ -13,7 +15,7 @@ const SEPARATE_TAG: u8 = 0x12;
 const CONFINE_TAG: u8 = 0x13;
 
 // A record's fields, or the refusal of what cannot be read as one.
-#[derive(Drop)]
+#[derive(Clone, Copy)]
 pub enum Record {
     Unreadable(u8),
     // Tag 10 hex: kind, process, a, b, c.

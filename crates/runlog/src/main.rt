@@ -1,5 +1,7 @@
 // Runs a log (document 01, Runs to check, B). Standard input is the log, at most 65,536 bytes; above that only `log too long` is written. A
 // line is written for each record: the word of its answer, then the numbers. Lines that cannot be written are said to be lost.
+#![tactic(auto)]
+
 ghost use Rattle.std.specs.Prelude.{◌≡◌, ℕ, ◌≤◌, length, take};
 ghost use Rattle.flow.specs.Box.{log_limit, fresh};
 ghost use Rattle.flow.specs.Verdicts.{run_log};

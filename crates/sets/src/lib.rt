@@ -1,4 +1,6 @@
 // Sets of the numbers 0 to 63, each in one u64. A number i stands for i % 64.
+#![tactic(auto)]
+
 ghost use Rattle.std.specs.Prelude.{◌≡◌, ◌%◌};
 ghost use Rattle.sets.specs.Sets.{has, only, ◌∪◌, ◌∩◌, without, count, lowest, union_of};
 

@@ -14,7 +14,7 @@ use crate::limits::{
 use crate::numbers::{Container, Process, Sort};
 
 // The words that have the counts of a process and a container: its two sets, and its bytes.
-#[derive(Drop)]
+#[derive(Clone, Copy)]
 pub struct Cells {
     pub maps: u64,
     pub ways: u64,

@@ -3,6 +3,8 @@
 //                those of them that it maps both ways from 81 on, the counts of these mappings from 97 on (document 02, Paper 4)
 //   descriptors  32 for each process
 //   names        128
+#![tactic(auto)]
+
 pub mod blocks;
 pub mod cells;
 pub mod counts;
@@ -13,7 +15,7 @@ pub mod numbers;
 pub mod spread;
 
 // What a call gives: the set `empty` is emptied, then `to` is given the items `given`, then `to2` the items `given2`.
-#[derive(Drop)]
+#[derive(Clone, Copy)]
 pub struct Plan {
     pub empty: u64,
     pub given: u64,

@@ -1,6 +1,8 @@
 // Runs calls on a fresh tracker. Standard input, at most 65,536 bytes of it, is calls of five bytes each: kind, process, a, b, c; what is
 // left over is ignored. It writes a line for each call: 0 and the set of the containers that gained, as a number, or the refusal's number. Then
 // come each container's items as a number, and for each item how many containers hold it, and which.
+#![tactic(auto)]
+
 ghost use Rattle.std.specs.Prelude.{◌≡◌, ◌/◌, length};
 ghost use Rattle.tracker.specs.View.{view};
 ghost use Rattle.test_calls.specs.Calls.{after_calls};

@@ -18,7 +18,7 @@ use store::limits::DEVICES;
 use store::numbers::Container;
 
 // What a call got: the number of the refusal, or 0 once its change is made, and the containers that gained.
-#[derive(Drop)]
+#[derive(Clone, Copy)]
 pub struct Made {
     pub refusal: u8,
     pub gained: u64,

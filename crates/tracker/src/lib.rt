@@ -1,6 +1,8 @@
 // The tracker (the information point): which items lie in which container, how often each process maps which containers, which names and
 // descriptors lead where. It makes the changes of document 01's calls, refuses what the table of refusals refuses, and answers the two queries.
 // No rule is judged here.
+#![tactic(auto)]
+
 pub mod calls;
 pub mod plan;
 pub mod queries;
@@ -20,7 +22,7 @@ use queries::Reply;
 use store::limits;
 
 // The five bytes of a call.
-#[derive(Drop)]
+#[derive(Clone, Copy)]
 pub struct Call {
     pub kind: u8,
     pub process: u8,
@@ -31,7 +33,7 @@ pub struct Call {
 
 // The maps by value. The rules are kept by the layer above. Its layout is C's, for callers that keep it in their own memory.
 #[repr(C)]
-#[derive(Drop)]
+#[derive(Clone, Copy)]
 pub struct Tracker {
     words: [u64; 353],
     descriptors: [u8; 512],
@@ -39,13 +41,13 @@ pub struct Tracker {
 }
 
 // What a call gets here: its change is made, with the containers that gained (document 02, Paper 5), or it is refused with a number.
-#[derive(Drop)]
+#[derive(Clone, Copy)]
 pub enum Work {
     Done(u64),
     Refused(u8),
 }
 
-#[derive(Drop)]
+#[derive(Clone, Copy)]
 pub struct Called {
     pub work: Work,
     pub tracker: Tracker,

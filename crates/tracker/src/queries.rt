@@ -13,7 +13,7 @@ use store::lookups::items;
 use store::numbers::Container;
 
 // The result, or a refusal's number.
-#[derive(Drop)]
+#[derive(Clone, Copy)]
 pub enum Reply {
     Result(u64),
     Refused(u8),

@@ -22,7 +22,7 @@ pub fn held_by(words: &[u64; 353], descriptors: &[u8; 512], p: u8) -> u64
 
 // What a call may end the use of: what an entry leads to, and unmap's container, where that is a file or pipe (closed where there is none),
 // and a set of containers. Unmap's is apart, so that the compiler need not keep field a twice.
-#[derive(Drop)]
+#[derive(Clone, Copy)]
 pub struct Lost {
     pub entry: u8,
     pub unmapped: u8,

@@ -1,4 +1,6 @@
 // Rows and columns of a 64 x 64 bit matrix exchanged, in six rounds.
+#![tactic(auto)]
+
 ghost use Rattle.std.specs.Prelude.{◌≡◌, true, false, ◌<◌};
 ghost use Rattle.transpose.specs.Transposed.{transposed};
 ghost use Rattle.transpose.specs.Rounds.{unfit, word, shuffled};
