@@ -4,7 +4,7 @@ use native.Mathlib.Omega.{arith}
 use mathlib.Core.Path.{◌≡◌, refl, ap}
 use mathlib.Core.Logic.{inl}
 use mathlib.Core.Bool.{Bool, true, false, ◌&&◌}
-use mathlib.Core.List.{List, ◌∷◌}
+use mathlib.Core.List.{List, [], ◌∷◌}
 use mathlib.Core.Option.{Option, none, some}
 use lib.Dec.{eqb}
 use lib.ListN.{length}
@@ -85,6 +85,7 @@ writer_lt q e h =
 -- the lowest broken rule is one of the list
 broken_fits : (u : State) (n : ℕ) (rs : List Rule) (x : Numbered) → all_well_formed rs ≡ true → LowestIn u x n rs → well_formed x.rule ≡ true
 unfolding all_well_formed
+broken_fits u n [] x w l = elim l [ ]
 broken_fits u n (r ∷ rs) x w (this b e) = rw e (and_l _ (all_well_formed rs) w)
 broken_fits u n (r ∷ rs) x w (past b l) = broken_fits u (suc n) rs x (and_r (well_formed r) _ w) l
 

@@ -83,6 +83,8 @@ unfolding StandAt
 above k n (m ∷ ms) (t ∷ ts) h c (this_test e) = omega (arith, (first_place k m ms h).0, c.0 n e)
 above k n (m ∷ ms) (t ∷ ts) h c (later_test a) = let d = first_place k m ms h in omega (arith, d.0, above (suc (place_of m)) n ms ts d.1 c.1 a)
 above k n [] (t ∷ ts) h c a = absurd c
+above k n [] [] h c a = elim a [ ]
+above k n (m ∷ ms) [] h c a = elim c [ ]
 
 earliest : (k n i : ℕ) (ms : List ℕ) (ts : List Test) → climbs k ms ≡ true → StandAt ms ts → first_that ts ≡ some n → Applies i ts → place_of n ≤ place_of i
 unfolding StandAt first_that
@@ -92,6 +94,8 @@ earliest k n i (m ∷ ms) (some j ∷ ts) h c e (later_test a) =
 earliest k n i (m ∷ ms) (none ∷ ts) h c e (this_test f) = absurd (let z : ◌≡◌ {A = ℕ} 0 1 = cc in let y : ⊥ = omega arith in y)
 earliest k n i (m ∷ ms) (none ∷ ts) h c e (later_test a) = earliest (suc (place_of m)) n i ms ts (first_place k m ms h).1 c.1 e a
 earliest k n i [] (t ∷ ts) h c e a = absurd c
+earliest k n i [] [] h c e a = elim a [ ]
+earliest k n i (m ∷ ms) [] h c e a = elim c [ ]
 
 one_of : (k n i : ℕ) (ms : List ℕ) (ts : List Test) → climbs k ms ≡ true → StandAt ms ts → Applies n ts → Applies i ts → place_of n ≡ place_of i → n ≡ i
 unfolding StandAt
@@ -102,6 +106,8 @@ one_of k n i (m ∷ ms) (t ∷ ts) h c (later_test a) (this_test f) q =
     absurd (let y : ⊥ = omega (arith, q, c.0 i f, above (suc (place_of m)) n ms ts (first_place k m ms h).1 c.1 a) in y)
 one_of k n i (m ∷ ms) (t ∷ ts) h c (later_test a) (later_test b) q = one_of (suc (place_of m)) n i ms ts (first_place k m ms h).1 c.1 a b q
 one_of k n i [] (t ∷ ts) h c a b q = absurd c
+one_of k n i [] [] h c a b q = elim a [ ]
+one_of k n i (m ∷ ms) [] h c a b q = elim c [ ]
 
 -- ---- those of a record
 -- a test of a condition has the place of its number

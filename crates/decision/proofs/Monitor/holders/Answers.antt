@@ -1,0 +1,7 @@
+-- `Monitor::holders` asks the tracker.
+use Rattle.decision.specs.View.{view}
+use borrow.Author.Rules.{rules}
+use Rattle.decision.proofs.Monitor.holders.Goals as goal
+
+pub returns : goal.returns
+returns c = c.holders_in.ensures _ _ _

@@ -1,0 +1,7 @@
+-- `Monitor::items` asks the tracker.
+use Rattle.decision.specs.View.{view}
+use borrow.Author.Rules.{rules}
+use Rattle.decision.proofs.Monitor.items.Goals as goal
+
+pub returns : goal.returns
+returns c = c.items_in.ensures _ _ _

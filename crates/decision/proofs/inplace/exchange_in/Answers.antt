@@ -1,0 +1,28 @@
+-- `exchange_in` plans both gifts of a map both, judges them and makes the call.
+use mathlib.Core.Path.{sym, ap, ◌∙◌}
+use Rattle.store.specs.Maps.{gifts}
+use Rattle.tracker.proofs.Joined.{both_no_fork, gifts_alone}
+use Rattle.decision.specs.declared.Monitor.{Monitor}
+use Rattle.decision.specs.View.{maps, monitor}
+use Rattle.decision.proofs.CallLaws.{gives_stopped, gives_made, passes_made}
+use borrow.Author.Rules.{rules}
+use Rattle.decision.proofs.inplace.exchange_in.Goals as goal
+
+-- the monitor that was met
+abbrev met : tie.Start → Monitor
+met s = monitor s.args.words.now s.args.descriptors.now s.args.names.now s.args.sets.now s.args.fields.now
+
+pub returns-then-k-count : goal.returns-then-k-count
+returns-then-k-count c =
+    gives_stopped (met c) _ _ c.exchange_of-plan.ensures _ c.first_anew-k.ensures (λ e. c.if-k-count.true (e ∙ sym c.count.ensures)) 0
+
+pub finish_exchange-requires : goal.finish_exchange-requires
+finish_exchange-requires c =
+    (passes_made _ _ _ _ c.requires.0 _ (ap gifts c.exchange_of-plan.ensures ∙ gifts_alone _ _ (both_no_fork _ c.requires.1)) _ _ c.make_items-gained.ensures, c.requires.1)
+
+pub returns : goal.returns
+returns c =
+    gives_made (met c) _ _ c.exchange_of-plan.ensures _ c.first_anew-k.ensures (c.if-k-count.false ∙ c.count.ensures) _ (ap gifts c.exchange_of-plan.ensures ∙ gifts_alone (maps (met c)) c.args.q (both_no_fork _ c.requires.1)) _ _ c.make_items-gained.ensures _ _ _ c.finish_exchange.ensures
+
+pub exchange_of-plan-requires : goal.exchange_of-plan-requires
+exchange_of-plan-requires c = c.requires

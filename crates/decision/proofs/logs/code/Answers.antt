@@ -1,0 +1,31 @@
+-- `code` goes by cases: its numbers fit, and each arm has the code of its answer.
+use native.Mathlib.Omega.{arith}
+use mathlib.Core.Path.{refl}
+use Rattle.decision.specs.Answers.{word_of}
+use Rattle.decision.specs.Logs.{code_of}
+use borrow.Author.Rules.{rules}
+use Rattle.decision.proofs.logs.code.Goals as goal
+
+pub overflow_mul-result : goal.overflow_mul-result
+overflow_mul-result c = omega (arith, c.size.ensures.1)
+
+pub overflow_mul-result-in-Modify-3 : goal.overflow_mul-result-in-Modify-3
+overflow_mul-result-in-Modify-3 c = omega (arith, c.size-in-Modify.ensures.1)
+
+pub overflow_add-result-in-Modify-3 : goal.overflow_add-result-in-Modify-3
+overflow_add-result-in-Modify-3 c = omega (arith, c.size-in-Modify.ensures.1, c.known_told-in-Modify-1)
+
+pub returns-in-Allow : goal.returns-in-Allow
+returns-in-Allow c = rw (c.answer-1.given.1, ← c.size.ensures.0) refl
+
+pub returns-in-Inhibit : goal.returns-in-Inhibit
+returns-in-Inhibit c = rw c.answer-in-Inhibit-1.given.1 refl
+
+pub returns-in-Modify : goal.returns-in-Modify
+returns-in-Modify c = rw (c.answer-in-Modify-1.given.1, ← c.size-in-Modify.ensures.0) refl
+
+pub returns-in-Loaded : goal.returns-in-Loaded
+returns-in-Loaded c = rw c.answer-in-Loaded-1.given.1 refl
+
+pub returns-in-Refused : goal.returns-in-Refused
+returns-in-Refused c = rw c.answer-in-Refused-1.given.1 refl

@@ -1,0 +1,12 @@
+-- `items_lent` asks the tracker.
+use Rattle.decision.specs.View.{view}
+use Rattle.rules.specs.Stored.{rules_of}
+use Rattle.hook.proofs.CodeLaws.{given_by}
+use borrow.Author.Rules.{rules}
+use Rattle.hook.proofs.lent.items_lent.Goals as goal
+
+pub returns : goal.returns
+unfolding view
+returns c =
+    let a = c.args in
+    given_by _ _ (c.items_in-reply.ensures a.descriptors.now a.names.now (rules_of a.sets.now a.fields.now)) _ _ _ c.give.ensures

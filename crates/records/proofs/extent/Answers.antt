@@ -1,0 +1,13 @@
+-- `extent` is the length of the record at the front.
+use mathlib.Core.Path.{sym, ◌∙◌}
+use Rattle.flow.specs.Records.{cut_short, record_length}
+use Rattle.flow.proofs.Bools.{chosen_l, chosen_r}
+use Rattle.records.specs.Reading.{extent_of}
+use borrow.Author.Rules.{rules}
+use Rattle.records.proofs.extent.Goals as goal
+
+pub returns-then-cut_short : goal.returns-then-cut_short
+returns-then-cut_short c = sym (chosen_l (cut_short _) _ _ (sym c.cut_short.ensures ∙ c.if-cut_short.true))
+
+pub returns-else-cut_short : goal.returns-else-cut_short
+returns-else-cut_short c = rw c.stated_length.ensures (sym (chosen_r (cut_short _) _ _ (sym c.cut_short.ensures ∙ c.if-cut_short.false)))

@@ -1,0 +1,7 @@
+-- `known` is the test of a tag.
+use mathlib.Core.Path.{refl}
+use Rattle.flow.specs.Records.{known_tag}
+use Rattle.records.proofs.known.Goals as goal
+
+pub returns : goal.returns
+returns c = refl

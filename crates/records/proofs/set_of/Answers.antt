@@ -1,0 +1,9 @@
+-- `set_of` is the number of eight bytes, of which it makes two halves.
+use native.Mathlib.Omega.{arith}
+use Rattle.flow.specs.Lists.{table_from}
+use Rattle.flow.specs.Records.{number_from}
+use borrow.Author.Rules.{rules}
+use Rattle.records.proofs.set_of.Goals as goal
+
+pub returns : goal.returns
+returns c = omega arith

@@ -1,0 +1,8 @@
+-- `gets` joins the two shares.
+use borrow.Author.Rules.{rules}
+use Rattle.sets.specs.Sets.{◌∪◌}
+use Rattle.rules.specs.Judging.{gets, only_if}
+use Rattle.rules.proofs.judging.gets.Goals as goal
+
+pub returns : goal.returns
+returns c = rw (c.only_if.ensures, c.has.ensures, c.only_if-2.ensures, c.has-2.ensures)

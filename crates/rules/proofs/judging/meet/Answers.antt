@@ -1,0 +1,11 @@
+-- `meet` tries the two items in both orders.
+use mathlib.Core.Path.{sym, ◌∙◌}
+use borrow.Author.Rules.{rules}
+use Rattle.rules.specs.Judging.{meet}
+use Rattle.rules.proofs.judging.meet.Goals as goal
+
+pub returns-then-both : goal.returns-then-both
+returns-then-both c = rw (sym c.both.ensures ∙ c.if-both.true)
+
+pub returns : goal.returns
+returns c = rw (sym c.both.ensures ∙ c.if-both.false) c.both-2.ensures

@@ -1,0 +1,12 @@
+-- `same_items` goes by the tag.
+use mathlib.Core.Path.{sym, ap}
+use Rattle.flow.specs.Refusals.{same_items}
+use Rattle.rules.proofs.ConditionLaws.{separates_by, same_items_by_set}
+use borrow.Author.Rules.{rules}
+use Rattle.rules.proofs.loading.same_items.Goals as goal
+
+pub returns-then-rule-eq-SEPARATE_TAG : goal.returns-then-rule-eq-SEPARATE_TAG
+returns-then-rule-eq-SEPARATE_TAG c = sym (ap same_items (separates_by _ _ _ c.if-rule-eq-SEPARATE_TAG.true))
+
+pub returns : goal.returns
+returns c = same_items_by_set _ _ _ c.if-rule-eq-SEPARATE_TAG.false

@@ -1,0 +1,14 @@
+use Prim.Native.Nat.{◌-◌, ◌≤◌}
+use mathlib.Core.Path.{◌≡◌, refl}
+use lib.ListN.{length, take}
+use lib.Seq.{take_all}
+use Rattle.store.specs.Maps.{files_in}
+use Rattle.store.proofs.Files.{none_low, flag_none}
+use borrow.Author.Rules.{rules}
+use Rattle.store.proofs.blocks.any_low.Given as goal
+
+abbrev pub invariant-loop-i : goal.invariant-loop-i
+invariant-loop-i l = (l.i ≤ length l.table) × (l.found ≡ 0 → files_in (take l.i l.table) ≡ 0)
+
+abbrev pub decreases-loop-i : goal.decreases-loop-i
+decreases-loop-i l = length l.table - l.i

@@ -1,0 +1,15 @@
+use Prim.Native.Nat.{◌-◌, ◌≤◌}
+use mathlib.Core.Path.{◌≡◌, refl, ap, ◌∙◌}
+use lib.ListN.{length, take}
+use lib.Seq.{take_all}
+use Rattle.sets.specs.Sets.{◌∪◌}
+use Rattle.store.specs.Maps.{files_in}
+use Rattle.store.proofs.Files.{files_in_next}
+use borrow.Author.Rules.{rules}
+use Rattle.store.proofs.blocks.files_each.Given as goal
+
+abbrev pub invariant-loop-i : goal.invariant-loop-i
+invariant-loop-i l = (l.i ≤ length l.table) × (l.x ≡ files_in (take l.i l.table))
+
+abbrev pub decreases-loop-i : goal.decreases-loop-i
+decreases-loop-i l = length l.table - l.i

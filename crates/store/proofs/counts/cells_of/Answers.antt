@@ -1,0 +1,14 @@
+-- `cells_of` reads four words.
+use Prim.Native.Nat.{◌*◌, ◌/◌}
+use native.Mathlib.Nat.{add_assoc}
+use mathlib.Core.Path.{refl}
+use Rattle.store.specs.Maps.{maps_in, ways_in}
+use Rattle.store.specs.Pairs.{cells_in}
+use borrow.Author.Rules.{rules}
+use Rattle.store.proofs.counts.cells_of.Goals as goal
+
+pub returns : goal.returns
+unfolding cells_in maps_in ways_in
+returns c =
+    let a = c.args in
+    rw (add_assoc 97 (8 * a.p) (a.c / 8), add_assoc 225 (8 * a.p) (a.c / 8)) refl

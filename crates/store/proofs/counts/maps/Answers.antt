@@ -1,0 +1,10 @@
+-- `maps` asks the count.
+use Prim.Native.Nat.{ℕ}
+use mathlib.Core.Path.{ap}
+use mathlib.Core.Bool.{not}
+use lib.Dec.{eqb}
+use borrow.Author.Rules.{rules}
+use Rattle.store.proofs.counts.maps.Goals as goal
+
+pub returns : goal.returns
+returns c = (λ c d n. ap (λ (z : ℕ). not (eqb z 0)) (c.count.ensures d n)) c  -- LOOK

@@ -1,0 +1,12 @@
+use mathlib.Core.Path.{◌∙◌}
+use native.Mathlib.Omega.{arith}
+use Rattle.sets.specs.Sets.{count}
+use Rattle.store.proofs.Worklist.{turn_below, turn_less, Working, working_start, working_more, working_end, cleared_mapped}
+use borrow.Author.Rules.{rules}
+use Rattle.store.proofs.gifts.empty.Given as goal
+
+abbrev pub invariant-loop-left : goal.invariant-loop-left
+invariant-loop-left l = Working (λ y. 0) l.initial.items l.r l.items l.left
+
+abbrev pub decreases-loop-left : goal.decreases-loop-left
+decreases-loop-left l = count l.left

@@ -1,0 +1,6 @@
+-- `is_bound` looks at a name.
+use borrow.Author.Rules.{rules}
+use Rattle.store.proofs.lookups.is_bound.Goals as goal
+
+pub returns : goal.returns
+returns c = rw (c.leads.ensures, c.entry.ensures)

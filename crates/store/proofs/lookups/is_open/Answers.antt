@@ -1,0 +1,6 @@
+-- `is_open` looks at a descriptor.
+use borrow.Author.Rules.{rules}
+use Rattle.store.proofs.lookups.is_open.Goals as goal
+
+pub returns : goal.returns
+returns c = rw (c.leads.ensures, c.entry.ensures)

@@ -1,0 +1,15 @@
+use Prim.Native.Nat.{◌-◌, ◌≤◌}
+use mathlib.Core.Path.{◌≡◌, refl}
+use lib.ListN.{length, take}
+use lib.Seq.{take_all}
+use mir.Val.{bool_byte}
+use borrow.Author.Rules.{rules}
+use Rattle.flow.specs.Lists.{is_in}
+use Rattle.store.proofs.Use.{is_in_byte, byte_test}
+use Rattle.store.proofs.lookups.stands.Given as goal
+
+abbrev pub invariant-loop-i : goal.invariant-loop-i
+invariant-loop-i l = (l.i ≤ length l.table) × (l.found ≡ bool_byte (is_in l.c (take l.i l.table)))
+
+abbrev pub decreases-loop-i : goal.decreases-loop-i
+decreases-loop-i l = length l.table - l.i

@@ -1,0 +1,30 @@
+-- `next` finds a process that is in the set or fed from it.
+use native.Mathlib.Omega.{arith}
+use Rattle.sets.specs.Sets.{◌∩◌, ◌∪◌}
+use Rattle.store.specs.Maps.{part}
+use Rattle.store.proofs.Searching.{within_both, own_below, next_own, next_none, next_fed}
+use borrow.Author.Rules.{rules}
+use Rattle.store.proofs.spread.next.Goals as goal
+
+pub overflow_cast-result : goal.overflow_cast-result
+unfolding ◌∩◌
+overflow_cast-result c =
+    omega (arith, own_below (part 65 16 c.args.words.now) c.args.x c.args.false c.ranges.x.fits c.if-own-ne0.true _ c.lowest.ensures)
+
+pub returns-then-own-ne0 : goal.returns-then-own-ne0
+unfolding ◌∩◌
+returns-then-own-ne0 c =
+    next_own (part 65 16 c.args.words.now) _ _ c.ranges.x.fits c.if-own-ne0.true _ c.lowest.ensures
+
+pub returns-then-x-low-eq0 : goal.returns-then-x-low-eq0
+unfolding ◌∩◌ ◌∪◌
+returns-then-x-low-eq0 c =
+    next_none (part 65 16 c.args.words.now) _ _ c.if-own-ne0.false _ (within_both (part 65 16 c.args.words.now) _ c.requires.3 _ _ c.requires.1 c.requires.2) c.if-x-low-eq0.true
+
+pub returns : goal.returns
+unfolding ◌∩◌
+returns c =
+    next_fed (part 65 16 c.args.words.now) _ _ c.if-own-ne0.false _ c.fed.ensures
+
+pub fed-requires : goal.fed-requires
+fed-requires c = c.requires

@@ -1,0 +1,6 @@
+-- `Tracker::holders` answers the query on the tracker's words.
+use borrow.Author.Rules.{rules}
+use Rattle.tracker.proofs.Tracker.holders.Goals as goal
+
+pub returns : goal.returns
+returns c = λ rules. c.holders_in.ensures _ _ rules

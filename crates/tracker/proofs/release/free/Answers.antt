@@ -1,0 +1,12 @@
+-- `free` asks whether a link leads into the container.
+use mathlib.Core.Path.{sym, ◌∙◌}
+use Rattle.flow.proofs.Bools.{chosen_l, chosen_r}
+use Rattle.tracker.specs.Plans.{free_at}
+use borrow.Author.Rules.{rules}
+use Rattle.tracker.proofs.release.free.Goals as goal
+
+pub returns-then-is_fed : goal.returns-then-is_fed
+returns-then-is_fed c = λ d n. sym (chosen_l _ _ _ (sym (c.is_fed.ensures d n) ∙ c.if-is_fed.true))
+
+pub returns : goal.returns
+returns c = λ d n. sym (chosen_r _ _ _ (sym (c.is_fed.ensures d n) ∙ c.if-is_fed.false))

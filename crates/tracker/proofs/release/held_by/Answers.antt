@@ -1,0 +1,12 @@
+-- `held_by` joins the files of the descriptors and of what is mapped.
+use Rattle.sets.specs.Sets.{◌∪◌, ◌∩◌}
+use Rattle.store.specs.Maps.{view}
+use Rattle.tracker.specs.Plans.{held_by}
+use borrow.Author.Rules.{rules}
+use Rattle.tracker.proofs.release.held_by.Goals as goal
+
+pub returns : goal.returns
+unfolding held_by view ◌∪◌ ◌∩◌
+returns c n =
+    let d = c.args.descriptors.now in
+    rw (c.block_files.ensures, c.maps.ensures d n)

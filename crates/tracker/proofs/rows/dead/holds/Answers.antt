@@ -1,0 +1,23 @@
+-- `dead::holds` is the row of test 6.
+use mathlib.Core.Path.{refl}
+use mathlib.Core.Bool.{Bool}
+use mathlib.Core.List.{[], ◌∷◌}
+use mathlib.Core.Option.{Option}
+use Rattle.flow.specs.Calls.{Kind, kind_number, is_kind}
+use Rattle.flow.specs.Records.{kinds}
+use Rattle.flow.specs.Box.{is_live}
+use Rattle.flow.specs.Refusals.{dead}
+use Rattle.store.specs.Maps.{view}
+use Rattle.tracker.specs.Rows.{dead_at}
+use Rattle.tracker.proofs.Arms.{kind_arm, kind_rest}
+use borrow.Author.Rules.{rules}
+use Rattle.tracker.proofs.rows.dead.holds.Goals as goal
+
+abbrev row : tie.Start → Option Kind → Bool
+row c = dead_at (view c.args.words.now c.args.descriptors.now c.args.names.now).tables c.args.q
+
+pub returns-in-1 : goal.returns-in-1
+returns-in-1 c = kind_arm (row (c)) (1 ∷ 19 ∷ []) _ refl _ c.in-1.keys1
+
+pub returns-in_default : goal.returns-in_default
+returns-in_default c = rw c.is_live.ensures (kind_rest (row (c)) ((1 ∷ 19 ∷ []) ∷ []) refl _ c.in-1.rest)

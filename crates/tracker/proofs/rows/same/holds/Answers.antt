@@ -1,0 +1,20 @@
+-- `same::holds` is the row of test 9.
+use mathlib.Core.Path.{refl}
+use mathlib.Core.Bool.{Bool}
+use mathlib.Core.List.{[], ◌∷◌}
+use mathlib.Core.Option.{Option}
+use Rattle.flow.specs.Calls.{Kind, kind_number, is_kind}
+use Rattle.flow.specs.Records.{kinds}
+use Rattle.flow.specs.Refusals.{same_descriptors}
+use Rattle.tracker.specs.Rows.{same_at}
+use Rattle.tracker.proofs.Arms.{kind_arm, kind_rest}
+use Rattle.tracker.proofs.rows.same.holds.Goals as goal
+
+abbrev row : tie.Start → Option Kind → Bool
+row c = same_at c.args.q
+
+pub returns-in-4 : goal.returns-in-4
+returns-in-4 c = kind_arm (row (c)) (4 ∷ []) _ refl _ c.in-4.keys1
+
+pub returns-in_default : goal.returns-in_default
+returns-in_default c = kind_rest (row (c)) ((4 ∷ []) ∷ []) refl _ c.in-4.rest

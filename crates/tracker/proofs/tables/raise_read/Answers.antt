@@ -1,0 +1,46 @@
+-- `raise_read` is the table of the calls that give once.
+use mathlib.Core.Path.{◌≡◌, refl, ◌∙◌}
+use mathlib.Core.Bool.{true, false}
+use mathlib.Core.List.{[], ◌∷◌}
+use mathlib.Core.Option.{Option}
+use Rattle.flow.specs.Box.{descriptor}
+use Rattle.flow.specs.Calls.{Kind, map_read, kind_number, sort_of, tables_by}
+use Rattle.flow.specs.Records.{kind_of, kinds}
+use Rattle.flow.specs.Refusals.{need_of}
+use Rattle.flow.proofs.Bools.{chosen_l}
+use Rattle.store.specs.Maps.{Maps, with_tables, view}
+use Rattle.tracker.specs.Rows.{tables_at}
+use Rattle.tracker.specs.Plans.{gives_by, gives_at}
+use Rattle.tracker.proofs.Arms.{kind_arm, kind_rest}
+use Rattle.tracker.proofs.Facts.{process_lt, leads_to, room_read}
+use borrow.Author.Rules.{rules}
+use Rattle.tracker.proofs.tables.raise_read.Goals as goal
+
+-- the row of the table for a kind that can give; of the others nothing is asked
+abbrev before : tie.Start → Maps
+before s = view s.args.words.now s.args.descriptors.now s.args.names.now
+
+abbrev row : tie.Start → Option Kind → Maps
+row s o = with_tables (before s) (tables_at (before s).tables s.args.q o)
+
+abbrev asked : tie.Start → Option Kind → Maps
+asked s o = elim (gives_at o) as (λ z. Maps) [ true ↦ row s o | false ↦ before s ]
+
+is_row : (s : tie.Start) → asked s (kind_of s.args.q.kind) ≡ row s (kind_of s.args.q.kind)
+is_row s = chosen_l (gives_at (kind_of s.args.q.kind)) _ _ s.requires.1.0
+
+pub raise-requires : goal.raise-requires
+unfolding sort_of kind_number need_of
+raise-requires c =
+    (process_lt c.requires.0, rw c.descriptor-to.ensures (leads_to c.requires.0 map_read c.in-11.keys1 refl), rw c.descriptor-to.ensures (room_read c.requires.0 c.in-11.keys1))
+
+pub returns-in-11 : goal.returns-in-11
+unfolding view tables_at tables_by kinds descriptor sort_of
+returns-in-11 c =
+    c.raise.ensures c.args.descriptors.now c.args.names.now ∙ rw c.descriptor-to.ensures (kind_arm (row c) (11 ∷ []) _ refl _ c.in-11.keys1)
+
+-- the others that give once change no table
+pub returns-in_default : goal.returns-in_default
+unfolding tables_at tables_by kinds gives_at gives_by
+returns-in_default c =
+    kind_rest (asked c) ((17 ∷ []) ∷ (12 ∷ []) ∷ (11 ∷ []) ∷ []) refl _ ((c.in-11.rest, c.requires.1.1), c.requires.1.2) ∙ is_row c
