@@ -12,6 +12,7 @@ import sys
 from pathlib import Path
 
 ID = r"[^\s(){}\[\];,.`\"=λ→]+"
+PLACED = re.compile(r"(?:\((\S+) : tie\.(\S+?)(?: [^)]*)?\)|tie\.(\S+)(?: invariant\S* decreases\S*)*)(?: →| (?=\())\s*(.*)", re.S)
 FIELDS = {"inv": "invariant", "taken": "true", "left": "false", "came": "branch", "pre": "requires"}
 
 
@@ -70,6 +71,7 @@ class Fn:
         self.places = {p[0]: p for p in data["places"]}
         new = data["places_by_name"]
         self.newplace = {norm(p[0]): n for p, n in zip(data["places"], new)}
+        self.byname = {norm(p[0]): p for p in data["places"]}
         self.steps = {}
         for p in data["places"]:
             if p[2][0]:
@@ -83,8 +85,25 @@ class Fn:
         self.items = {}
         self.looks = []
 
+    def chain(self, place):
+        """The steps on the way to a place, the last first."""
+        steps = {}
+        while place is not None:
+            p = self.byname.get(norm(place))
+            if p is None:
+                break
+            if p[2][0]:
+                steps.setdefault(norm(p[2][0]), p[2][1])
+            for a, b in p[4]:
+                steps.setdefault(norm(a), b)
+            place = p[1]
+        return steps
+
     # ---- terms
-    def term(self, text, env, need):
+    def term(self, text, env, need, place=None):
+        if need is not None:
+            place = next((a[0] for (o, n), a in zip(self.needs, self.data["asked_at"]) if n == need), place)
+        steps = {**self.steps, **self.chain(place)}
         text = self.lets(text, env)
         changed = True
         while changed:
@@ -103,9 +122,10 @@ class Fn:
         for h, kind in self.helpers.items():
             if kind == "place" or kind is None:
                 continue
-            pat = re.compile(rf"(?<![\w.'-])({re.escape(h)}) ({ID}(?:\.before)*)(?![\w'.-])")
+            pat = re.compile(rf"(?<![\w.'-])({re.escape(h)}) (\(?{ID}(?:\.before)*\)?)(?![\w'.-])")
             def rep2(m):
-                if m.group(2).split(".")[0] not in env:
+                bare = m.group(2).startswith("(") == m.group(2).endswith(")")
+                if not bare or m.group(2).strip("()").split(".")[0] not in env:
                     return m.group(0)
                 place = self.newplace.get(norm(kind), kind)
                 if need is None:
@@ -125,9 +145,10 @@ class Fn:
             if not fields:
                 return "c"
             f = fields[0]
-            if norm(f) in self.steps:
-                fields[0] = self.steps[norm(f)]
-            fields = [FIELDS.get(x, x) for x in fields]
+            if norm(f) in steps:
+                fields[0] = steps[norm(f)]
+            if fields[0] != "args":
+                fields = [FIELDS.get(x, x) for x in fields]
             return "c." + ".".join(fields)
         text = pat.sub(rep3, text)
         for a in [a for a in env if a != "c"]:
@@ -138,7 +159,7 @@ class Fn:
         place = rf"{ID}(?:\.before)*"
         pos = 0
         while True:
-            m = re.compile(rf"let ({ID}) = ").search(text, pos)
+            m = re.compile(rf"let ({ID})(?: : tie\.[^=]*)? = ").search(text, pos)
             if not m:
                 return text
             end = text.find(" in", m.end())
@@ -178,6 +199,7 @@ class Fn:
         if not m and not simple:
             raise ValueError("no tie.spec")
         args = split_args(m.group(1)) if m else []
+        self.unf = [l for l in spec.splitlines() if l.startswith("unfolding")]
         named, out, inv_out = {}, [], []
         self.invs = {}
         for it in decls[:-1]:
@@ -199,13 +221,16 @@ class Fn:
                 continue
             if re.match(r"^\(λ c( κs)?\. search rules\)$", arg) or arg == "_":
                 continue
-            lam = re.match(r"^\(λ c( κs)?\. (.*)\)$", arg, re.S)
+            lam = re.match(rf"^\(λ ({ID})((?: {ID})*)\. (.*)\)$", arg, re.S)
             if need is None:
                 self.looks.append(f"an answer of no goal: {arg}")
                 out.append("-- LOOK: " + arg.replace("\n", "\n-- "))
                 continue
+            if lam and lam.group(3) == "search rules":
+                continue
             if lam:
-                out.append(f"pub {need} : goal.{need}\n{need} c = " + self.term(lam.group(2), {"c": True}, need))
+                extra = "".join(" " + a for a in lam.group(2).split() if a not in ("κs", "κ"))
+                out.append(f"pub {need} : goal.{need}\n" + "".join(u + "\n" for u in self.unf) + f"{need} c{extra} = " + self.term(lam.group(3), {lam.group(1): True, "c": True}, need))
             else:
                 out.append(f"pub {need} : goal.{need}\n{need} c = {arg} c -- LOOK")
         text = "\n\n".join(out)
@@ -242,9 +267,9 @@ class Fn:
         need = re.match(r"tie\.Need-(\S+)", t)
         inv = re.match(r"tie\.((?:invariant|decreases)-\S+)", t)
         self.items[name] = {"need": need.group(1) if need else None, "inv": inv.group(1) if inv else None, "text": it}
-        m = re.match(r"\(c : tie\.(\S+?)(?: [^)]*)?\) → (.*)", t)
+        m = PLACED.match(t)
         if m:
-            self.helpers[name] = "place" if m.group(2).startswith("tie.") else m.group(1)
+            self.helpers[name] = "place" if m.group(4).startswith("tie.") else (m.group(2) or m.group(3))
 
     def kind_of(self, arg):
         it = self.items.get(arg)
@@ -319,11 +344,13 @@ class Fn:
             if cur:
                 subs.append(cur)
             kept = []
+            own = [h.group(1) for s in subs for l in s for h in [re.match(rf"  (?:pub |abbrev )*({ID}) : tie\.", l)] if h]
             for s in subs:
                 n = re.match(rf"  (?:pub |abbrev )*({ID}) : ", next((l for l in s if l.strip() and not l.strip().startswith("--")), ""))
                 if n and self.helpers.get(n.group(1)) == "place":
                     continue
-                kept.append(self.term("\n".join(s), {m.group(1): True, "c": True}, None))
+                env = {m.group(1): True, "c": True, **{h: True for h in own}}
+                kept.append(self.term("\n".join(s), env, None, m.group(2)))
             if not kept:
                 return ""
             return "\n".join(comment + [f"module _ (c : {place}){m.group(3) or ' '}where".replace("  ", " ")] + kept)
@@ -351,17 +378,26 @@ class Fn:
             return "\n".join(comment + [f"pub {need} : goal.{need}"] + unf + [f"{need} c{extra} =" + m.group(3) + self.term(m.group(4), env, need)])
         if self.helpers.get(name) == "place":
             return ""
-        pl = re.match(r"\(c : tie\.(\S+?)(?: [^)]*)?\) → (.*)", t)
+        pl = PLACED.match(t)
         if pl:
-            place = self.newplace.get(norm(pl.group(1)), pl.group(1))
-            newt = self.term(pl.group(2), {"c": True}, None)
+            oldplace = pl.group(2) or pl.group(3)
+            place = self.newplace.get(norm(oldplace), oldplace)
+            more = []
+            for l in body[1:]:
+                if re.match(rf"(unfolding |{re.escape(name)} )", l):
+                    break
+                more.append(l)
+            arrow = "→ " if re.search(r"→\s*$", t[: pl.start(4)]) else ""
+            newt = arrow + self.term("\n".join([pl.group(4)] + more), {pl.group(1) or "c": True, "c": True}, None, oldplace)
+            body = body[:1] + body[1 + len(more):]
             unf = [l for l in body[1:] if l.startswith("unfolding")]
             term = "\n".join(l for l in body[1:] if not l.startswith("unfolding"))
             m = re.match(rf"{re.escape(name)} (\S+)((?: {ID})*?) =(\s*)(.*)$", term, re.S)
             if not m:
                 self.looks.append(f"{name}: not read")
                 return it
-            return "\n".join(comment + [f"{name} : (c : {place}) → {newt}"] + unf + [f"{name} c{m.group(2)} =" + m.group(3) + self.term(m.group(4), {m.group(1): True, "c": True}, None)])
+            word = "abbrev " if body[0].startswith("abbrev ") else ""
+            return "\n".join(comment + [f"{word}{name} : (c : {place}) {newt}"] + unf + [f"{name} c{m.group(2)} =" + m.group(3) + self.term(m.group(4), {m.group(1): True, "c": True}, None, oldplace)])
         return it
 
 

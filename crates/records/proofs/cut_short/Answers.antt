@@ -4,4 +4,5 @@ use borrow.Author.Rules.{rules}
 use Rattle.records.proofs.cut_short.Goals as goal
 
 pub returns : goal.returns
+unfolding cut_short record_length
 returns c = rw c.stated_length.ensures

@@ -7,7 +7,9 @@ use borrow.Author.Rules.{rules}
 use Rattle.records.proofs.extent.Goals as goal
 
 pub returns-then-cut_short : goal.returns-then-cut_short
+unfolding extent_of record_length
 returns-then-cut_short c = sym (chosen_l (cut_short _) _ _ (sym c.cut_short.ensures ∙ c.if-cut_short.true))
 
 pub returns-else-cut_short : goal.returns-else-cut_short
+unfolding extent_of record_length
 returns-else-cut_short c = rw c.stated_length.ensures (sym (chosen_r (cut_short _) _ _ (sym c.cut_short.ensures ∙ c.if-cut_short.false)))

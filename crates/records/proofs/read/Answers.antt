@@ -16,22 +16,21 @@ whole c = sym c.refusal-n.ensures ∙ ap refusal_from c.if-n-ne0.false
 pub returns : goal.returns
 unfolding reading_of tag_of
 returns c =
-    let e : tie.Else3 = c in
-    let d : tie.After-at2 = e.before.before in
-    let t = d.before.at.ensures in
-    cc (confine_read _ (whole d.before.before) (λ q. e.before.if2.false (t ∙ q)) (λ q. c.if-tag-eq-FORBID_TAG.false (t ∙ q)) (λ q. e.if3.false (t ∙ q)))
+    let t = c.at-tag.ensures in
+    cc (confine_read _ (whole c) (λ q. c.if-tag-eq-CALL_TAG.false (t ∙ q)) (λ q. c.if-tag-eq-FORBID_TAG.false (t ∙ q)) (λ q. c.if-tag-eq-SEPARATE_TAG.false (t ∙ q)))
 
 pub returns-then-n-ne0 : goal.returns-then-n-ne0
+unfolding reading_of tag_of
 returns-then-n-ne0 c = unread _ _ c.if-n-ne0.true c.refusal-n.ensures
 
 pub returns-then-tag-eq-CALL_TAG : goal.returns-then-tag-eq-CALL_TAG
-returns-then-tag-eq-CALL_TAG c = let d : tie.After-at2 = c in
-    cc (call_read_lem _ (whole d.before.before) (sym d.before.at.ensures ∙ c.if-tag-eq-CALL_TAG.true))
+unfolding reading_of tag_of
+returns-then-tag-eq-CALL_TAG c = cc (call_read_lem _ (whole c) (sym c.at-tag.ensures ∙ c.if-tag-eq-CALL_TAG.true))
 
 pub returns-then-tag-eq-SEPARATE_TAG : goal.returns-then-tag-eq-SEPARATE_TAG
-returns-then-tag-eq-SEPARATE_TAG c = let d : tie.After-at2 = c in
-    cc (separate_read _ (whole d.before.before) (sym d.before.at.ensures ∙ c.if-tag-eq-SEPARATE_TAG.true))
+unfolding reading_of tag_of
+returns-then-tag-eq-SEPARATE_TAG c = cc (separate_read _ (whole c) (sym c.at-tag.ensures ∙ c.if-tag-eq-SEPARATE_TAG.true))
 
 pub returns-then-tag-eq-FORBID_TAG : goal.returns-then-tag-eq-FORBID_TAG
-returns-then-tag-eq-FORBID_TAG c = let d : tie.After-at2 = c in
-    cc (forbid_read _ (whole d.before.before) (sym d.before.at.ensures ∙ c.if-tag-eq-FORBID_TAG.true))
+unfolding reading_of tag_of
+returns-then-tag-eq-FORBID_TAG c = cc (forbid_read _ (whole c) (sym c.at-tag.ensures ∙ c.if-tag-eq-FORBID_TAG.true))

@@ -6,4 +6,5 @@ use borrow.Author.Rules.{rules}
 use Rattle.records.proofs.set_of.Goals as goal
 
 pub returns : goal.returns
+unfolding table_from number_from
 returns c = omega arith

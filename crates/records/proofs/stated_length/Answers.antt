@@ -4,4 +4,5 @@ use borrow.Author.Rules.{rules}
 use Rattle.records.proofs.stated_length.Goals as goal
 
 pub returns : goal.returns
+unfolding stated_length
 returns c = rw (c.at.ensures, c.at-2.ensures)

@@ -4,4 +4,5 @@ use borrow.Author.Rules.{rules}
 use Rattle.decision.proofs.Monitor.holders.Goals as goal
 
 pub returns : goal.returns
+unfolding view
 returns c = c.holders_in.ensures _ _ _

@@ -33,4 +33,5 @@ returns-in-Confine c =
     by_reading _ _ (Confine _ _ _ _) _ (ap reading_of (sym c.record-in-Confine-1.given.1) ∙ c.read-record.ensures) (rw c.rule-r-in-Confine.ensures at (c.load_in-in-Confine.ensures a.descriptors.now a.names.now))
 
 pub returns-in-Unreadable : goal.returns-in-Unreadable
+unfolding reading_of tests_of first_that
 returns-in-Unreadable c = by_reading _ _ (Unreadable _) _ (ap reading_of (sym c.«record».given.1) ∙ c.read-record.ensures) (refused_as _ _ _ refl)

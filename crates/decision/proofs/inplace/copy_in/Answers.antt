@@ -11,10 +11,11 @@ use Rattle.decision.specs.View.{maps, monitor}
 use Rattle.decision.proofs.CallLaws.{gives_stopped, gives_made, passes_made}
 use borrow.Author.Rules.{rules}
 use Rattle.decision.proofs.inplace.copy_in.Goals as goal
+use Rattle.decision.proofs.inplace.copy_in.Goals.{Start}
 
 -- the monitor that was met
-abbrev met : tie.Start → Monitor
-met s = monitor s.args.words.now s.args.descriptors.now s.args.names.now s.args.sets.now s.args.fields.now
+abbrev met : (c : Start) → Monitor
+met c = monitor c.args.words.now c.args.descriptors.now c.args.names.now c.args.sets.now c.args.fields.now
 
 pub returns-then-k-count : goal.returns-then-k-count
 returns-then-k-count c =

@@ -5,10 +5,10 @@ pub exchange_in-requires : goal.exchange_in-requires
 exchange_in-requires c = (c.requires.0, c.in-12.keys1)
 
 pub copy_in-requires : goal.copy_in-requires
-copy_in-requires c = (c.requires.0, c.in-12.keys2)
+copy_in-requires c = (c.requires.0, c.in-17.keys2)
 
 pub gift_in-requires : goal.gift_in-requires
-gift_in-requires c = (c.requires.0, (c.requires.1, c.in-12.rest.0.1, c.in-12.rest.1))
+gift_in-requires c = (c.requires.0, (c.requires.1, c.in_default.rest.0.1, c.in_default.rest.1))
 
 pub returns-in-12 : goal.returns-in-12
 returns-in-12 c = c.exchange_in.ensures

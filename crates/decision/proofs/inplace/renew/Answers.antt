@@ -10,4 +10,5 @@ use Rattle.decision.specs.View.{view}
 use Rattle.decision.proofs.inplace.renew.Goals as goal
 
 pub returns : goal.returns
+unfolding view rules_of count_of table table_from fresh
 returns c = ap {B = State} (λ (m : Maps). record { tables = m.tables; items = m.items; rules = [] }) fresh_view

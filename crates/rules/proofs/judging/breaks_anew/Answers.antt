@@ -27,7 +27,9 @@ returns-then-tag-eq-SEPARATE_TAG c = λ l m n.
     c.joins.ensures ∙ joined l _ x.fits y.fits _ _ m n _ _ ∙ sym (ap (breaks_anew l _) (separates_by _ _ _ c.if-tag-eq-SEPARATE_TAG.true))
 
 pub returns-then-not-touches : goal.returns-then-not-touches
-returns-then-not-touches c = λ l m n. sym (far _ l _ _ _ (gained_lt (goal.at.returns-then-not-touches c).Start) (sym c.touches.ensures ∙ not-true _ c.if-not-touches.true))
+unfolding ◌∪◌
+returns-then-not-touches c = λ l m n. sym (far _ l _ _ _ (gained_lt c) (sym c.touches.ensures ∙ not-true _ c.if-not-touches.true))
 
 pub returns : goal.returns
+unfolding ◌∪◌
 returns c = λ l m n. c.breaks_set.ensures l c.if-tag-eq-SEPARATE_TAG.false

@@ -17,7 +17,7 @@ use Rattle.rules.proofs.AnewLaws.{far, nothing_given, judges}
 use Rattle.rules.proofs.judging.judge.Goals as goal
 use Rattle.rules.proofs.judging.judge.Goals.{Start}
 
-answer : (c : tie.Start invariant-loop decreases-loop) (r : ℕ)
+answer : (c : Start) (r : ℕ)
     → r ≡ anew_from (items_in c.args.words.now) c.args.plan c.args.sets.now c.args.fields.now 0
     → Judged (items_in c.args.words.now) c.args.plan c.args.sets.now c.args.fields.now r
 answer c r e =
@@ -39,21 +39,24 @@ loop-k-init c =
 pub returns-then-breaks_set : goal.returns-then-breaks_set
 unfolding condition_at
 returns-then-breaks_set c =
-    answer c _ (seek_hit _ _ _ _ c.loop-k.invariant.2 (omega arith) (sym (c.breaks_set.ensures _ c.if-tag-eq-SEPARATE_TAG.false) ∙ c.if-breaks_set.true))
+    answer (goal.at.returns-then-breaks_set c).Start _ (seek_hit _ _ _ _ c.loop-k.invariant.2 (omega arith) (sym (c.breaks_set.ensures _ c.if-tag-eq-SEPARATE_TAG.false) ∙ c.if-breaks_set.true))
 
 pub loop-k-preserved : goal.loop-k-preserved
 unfolding condition_at ◌∪◌
 loop-k-preserved c =
     let whole =
     ⊎_elim (λ w. sym (w.3.ensures _ w.1.left) ∙ w.4.left)
-    (λ w. far _ _ _ _ _ (gained_lt (goal.at.loop-k-preserved c).Start) (sym c.touches.ensures ∙ w.left)) c.if-touches.branch in
+    (λ w. far _ _ _ _ _ (gained_lt c) (sym c.touches.ensures ∙ w.left)) c.if-touches.branch in
     (c.loop-k.invariant.0, c.loop-k.invariant.1, seek_miss _ _ _ _ c.loop-k.invariant.2 (omega arith) whole)
 
 pub returns-then-given-eq0 : goal.returns-then-given-eq0
-returns-then-given-eq0 c = answer c _ (c.count-end.ensures ∙ nothing_given _ c.if-given-eq0.true _ _ _)
+unfolding ◌∪◌
+returns-then-given-eq0 c = answer (goal.at.returns-then-given-eq0 c).Start _ (c.count-end.ensures ∙ nothing_given _ c.if-given-eq0.true _ _ _)
 
 pub returns-then-tag-eq-SEPARATE_TAG : goal.returns-then-tag-eq-SEPARATE_TAG
-returns-then-tag-eq-SEPARATE_TAG c = answer c _ (c.judge_from.ensures ∙ sym c.loop-k.invariant.2)
+unfolding ◌∪◌
+returns-then-tag-eq-SEPARATE_TAG c = answer (goal.at.returns-then-tag-eq-SEPARATE_TAG c).Start _ (c.judge_from.ensures ∙ sym c.loop-k.invariant.2)
 
 pub returns : goal.returns
-returns c = answer c _ (seek_end _ _ _ _ c.loop-k.invariant.2 (omega arith))
+unfolding ◌∪◌
+returns c = answer (goal.at.returns c).Start _ (seek_end _ _ _ _ c.loop-k.invariant.2 (omega arith))

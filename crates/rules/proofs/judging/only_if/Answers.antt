@@ -5,7 +5,9 @@ use Rattle.rules.specs.Judging.{only_if}
 use Rattle.rules.proofs.judging.only_if.Goals as goal
 
 pub returns-then-b : goal.returns-then-b
+unfolding only_if
 returns-then-b c = sym (chosen_l _ _ 0 c.if-b.true)
 
 pub returns : goal.returns
+unfolding only_if
 returns c = sym (chosen_r _ _ 0 c.if-b.false)

@@ -20,7 +20,9 @@ loop-c-preserved c =
     (search rules, below_more _ _ c.loop-c.invariant.1 (rw c.items.ensures at (sym c.breaks_with.ensures ∙ c.if-breaks_with.false)))
 
 pub returns-then-breaks_with : goal.returns-then-breaks_with
+unfolding broken_in
 returns-then-breaks_with c = sym (some_of_lem 64 _ _ c.loop-c-test.true (rw c.items.ensures at (sym c.breaks_with.ensures ∙ c.if-breaks_with.true)))
 
 pub returns : goal.returns
+unfolding broken_in
 returns c = sym (none_below 64 _ (λ v l. c.loop-c.invariant.1 v (omega arith)))

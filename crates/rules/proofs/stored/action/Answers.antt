@@ -5,4 +5,5 @@ use borrow.Author.Rules.{rules}
 use Rattle.rules.proofs.stored.action.Goals as goal
 
 pub returns : goal.returns
+unfolding action_at
 returns c = refl

@@ -5,4 +5,5 @@ use borrow.Author.Rules.{rules}
 use Rattle.rules.proofs.stored.substitute.Goals as goal
 
 pub returns : goal.returns
+unfolding substitute_at
 returns c = refl

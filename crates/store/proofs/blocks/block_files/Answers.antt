@@ -14,7 +14,9 @@ long : (c : Else-p-lt-PROCESSES) → length c.args.descriptors.now ≡ 512
 long c = search rules
 
 pub returns-then-p-lt-PROCESSES : goal.returns-then-p-lt-PROCESSES
+unfolding ◌∪◌ files_in
 returns-then-p-lt-PROCESSES c = rw (c.files_in.ensures, c.files_in-then-p-lt-PROCESSES.ensures) (block_files_lem _ _)
 
 pub returns : goal.returns
+unfolding ◌∪◌ files_in
 returns c = ap files_in (sym (block_past _ _ (omega (arith, long c))))

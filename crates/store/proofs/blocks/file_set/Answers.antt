@@ -8,7 +8,9 @@ use borrow.Author.Rules.{rules}
 use Rattle.store.proofs.blocks.file_set.Goals as goal
 
 pub returns-then-e : goal.returns-then-e
+unfolding ◌∪◌ is_file
 returns-then-e c = c.with.ensures ∙ ap only (mod-eq_of_lt (file_range _ c.if-e.true).1) ∙ sym (file_set_file _ c.if-e.true)
 
 pub returns : goal.returns
+unfolding ◌∪◌ is_file
 returns c = sym (file_set_none _ c.if-e.false)

@@ -9,13 +9,14 @@ use lib.ListN.{length, get_or, set, length-set}
 use Rattle.store.proofs.Storing.{copied_all, copied_none, size_sets, size_first}
 use borrow.Author.Rules.{rules}
 use Rattle.store.proofs.counts.copy_rows.Goals as goal
+use Rattle.store.proofs.counts.copy_rows.Goals.{After-cells-1}
 
-long : (l : tie.After-cells) → length l.before.args.words.now ≡ 353
-long l = search rules
+long : (c : After-cells-1) → length c.args.words.now ≡ 353
+long c = search rules
 
 pub bounds-cells-j-2 : goal.bounds-cells-j-2
 bounds-cells-j-2 c =
-    let k : length (set c.args.words.now (65 + c.args.to.0) (get_or c.args.words.now (65 + c.args.from.0) 0)) ≡ 353 = length-set c.args.words.now _ _ ∙ long c in
+    let k : length (set c.args.words.now (65 + c.args.to.0) (get_or c.args.words.now (65 + c.args.from.0) 0)) ≡ 353 = length-set c.args.words.now _ _ ∙ long (goal.at.bounds-cells-j-2 c).After-cells-1 in
     omega (arith, k, c.requires.1)
 
 -- eight words from a on and eight from b on are the same or apart

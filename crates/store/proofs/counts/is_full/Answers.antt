@@ -6,4 +6,4 @@ use borrow.Author.Rules.{rules}
 use Rattle.store.proofs.counts.is_full.Goals as goal
 
 pub returns : goal.returns
-returns c = (λ c d n. limit_is c.count.result (search rules) ∙ ap (leb 255) (c.count.ensures d n)) c  -- LOOK
+returns c d n = limit_is c.count.result (search rules) ∙ ap (leb 255) (c.count.ensures d n)

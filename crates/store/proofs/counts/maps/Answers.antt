@@ -7,4 +7,4 @@ use borrow.Author.Rules.{rules}
 use Rattle.store.proofs.counts.maps.Goals as goal
 
 pub returns : goal.returns
-returns c = (λ c d n. ap (λ (z : ℕ). not (eqb z 0)) (c.count.ensures d n)) c  -- LOOK
+returns c d n = ap (λ (z : ℕ). not (eqb z 0)) (c.count.ensures d n)

@@ -6,21 +6,22 @@ use Rattle.store.specs.Maps.{byte_of, put_byte}
 use Rattle.store.proofs.Bytes.{byte_below, put_from, put_lt, shifted_byte, shifted_new}
 use borrow.Author.Rules.{rules}
 use Rattle.store.proofs.counts.put.Goals as goal
+use Rattle.store.proofs.counts.put.Goals.{Start}
 
 pub overflow_sub-result : goal.overflow_sub-result
 unfolding byte_of
 overflow_sub-result c = let w = c.args.w in let j = c.args.j in rw (shifted_byte w j (search rules)) (byte_below w j)
 
 -- as numbers
-shifted : (s : tie.Start) → let w = s.args.w in let j = s.args.j in let n = s.args.n in
+shifted : (c : Start) → let w = c.args.w in let j = c.args.j in let n = c.args.n in
     w - byte_of w j * 2 ^ (8 * j) % 18446744073709551616 + n * 2 ^ (8 * j) % 18446744073709551616 ≡ put_byte w j n
-shifted s =
-    let w = s.args.w in
-    let j = s.args.j in
-    let n = s.args.n in
+shifted c =
+    let w = c.args.w in
+    let j = c.args.j in
+    let n = c.args.n in
     let l : n < 256 = search rules in
     let b : w < 2 ^ 64 = search rules in
-    ap₂ (λ (y z : ℕ). w - y + z) (shifted_byte w j b) (shifted_new w j n l s.requires b) ∙ put_from w j n
+    ap₂ (λ (y z : ℕ). w - y + z) (shifted_byte w j b) (shifted_new w j n l c.requires b) ∙ put_from w j n
 
 pub overflow_add-result : goal.overflow_add-result
 unfolding byte_of

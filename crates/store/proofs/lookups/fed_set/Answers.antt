@@ -14,7 +14,9 @@ loop-p-preserved c =
     (omega (arith, c.loop-p-test.true), rw c.loop-p.invariant.1 (ap (fed_up_to c.args.words.now) (sym (add-one c.loop-p.p))))
 
 pub loop-p-init : goal.loop-p-init
+unfolding fed_up_to
 loop-p-init c = (omega arith, refl)
 
 pub returns : goal.returns
+unfolding fed_up_to
 returns c = c.loop-p.invariant.1 ∙ ap (fed_up_to c.args.words.now) (let e : c.loop-p.p ≡ 16 = omega (arith, c.loop-p.invariant.0, c.loop-p-test.false) in e)

@@ -24,13 +24,17 @@ returns c =
     ∙ sym (used_held t _ c.if-c-lt-FIRST_FILE.false ∙ rw (← c.stands.ensures, c.if-stands.false, ← c.stands-2.ensures, c.if-stands-2.false)))
 
 pub returns-then-c-lt-DEVICES : goal.returns-then-c-lt-DEVICES
+unfolding is_device view
 returns-then-c-lt-DEVICES c = sym (used_device _ _ (lt-ltb _ 8 c.if-c-lt-DEVICES.true))
 
 pub returns-then-c-lt-FIRST_FILE : goal.returns-then-c-lt-FIRST_FILE
+unfolding is_device view
 returns-then-c-lt-FIRST_FILE c = c.is_live.ensures ∙ sym (used_number _ _ c.if-c-lt-DEVICES.false c.if-c-lt-FIRST_FILE.true)
 
 pub returns-then-stands : goal.returns-then-stands
+unfolding is_device view
 returns-then-stands c = sym (used_held _ _ c.if-c-lt-FIRST_FILE.false ∙ rw (← c.stands.ensures, c.if-stands.true))
 
 pub returns-then-stands-2 : goal.returns-then-stands-2
+unfolding is_device view
 returns-then-stands-2 c = sym (used_held _ _ c.if-c-lt-FIRST_FILE.false ∙ rw (← c.stands-2.ensures, c.if-stands-2.true, or-true))

@@ -4,4 +4,5 @@ use borrow.Author.Rules.{rules}
 use Rattle.store.proofs.lookups.mapped.Goals as goal
 
 pub returns : goal.returns
+unfolding part
 returns c = rw c.union_of.ensures

@@ -15,4 +15,4 @@ returns-then-p-lt-PROCESSES c d n =
     sym (feeders_is w d n p c.if-p-lt-PROCESSES.true (c.shared_slice_known-1.given (65 + p)).fits)
 
 pub returns : goal.returns
-returns c = (λ c d n. sym (feeders_past _ d n _ c.if1.false)) c  -- LOOK
+returns c d n = sym (feeders_past _ d n _ c.if-p-lt-PROCESSES.false)

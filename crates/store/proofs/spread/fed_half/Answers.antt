@@ -15,4 +15,4 @@ returns c = c.first_fed.ensures
 
 pub first_fed-requires : goal.first_fed-requires
 unfolding ◌∩◌
-first_fed-requires c = (search rules, half_lt c.args.false c.args.half c.requires.2)
+first_fed-requires c = (search rules, half_lt c.args.left c.args.half c.requires.2)

@@ -9,7 +9,7 @@ use Rattle.store.proofs.spread.next.Goals as goal
 pub overflow_cast-result : goal.overflow_cast-result
 unfolding ◌∩◌
 overflow_cast-result c =
-    omega (arith, own_below (part 65 16 c.args.words.now) c.args.x c.args.false c.ranges.x.fits c.if-own-ne0.true _ c.lowest.ensures)
+    omega (arith, own_below (part 65 16 c.args.words.now) c.args.x c.args.left c.ranges.x.fits c.if-own-ne0.true _ c.lowest.ensures)
 
 pub returns-then-own-ne0 : goal.returns-then-own-ne0
 unfolding ◌∩◌

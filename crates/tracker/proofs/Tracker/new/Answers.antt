@@ -8,4 +8,5 @@ use Rattle.store.proofs.Words.{fresh_view}
 use Rattle.tracker.proofs.Tracker.new.Goals as goal
 
 pub returns : goal.returns
+unfolding fresh
 returns c = ap (λ (m : Maps). state m []) fresh_view

@@ -15,10 +15,11 @@ use Rattle.tracker.proofs.Arms.{kind_arm, kind_rest}
 use Rattle.tracker.proofs.Facts.{below64, process_lt, process_itself, container_a, item_b, leads_to}
 use borrow.Author.Rules.{rules}
 use Rattle.tracker.proofs.plan.gift_of.Goals as goal
+use Rattle.tracker.proofs.plan.gift_of.Goals.{Start}
 
 -- the row of the table for a kind, s being what is known at the start
-abbrev row : tie.Start → Option Kind → Plan
-row s = plan_at (view s.args.words.now s.args.descriptors.now s.args.names.now) s.args.q
+abbrev row : (c : Start) → Option Kind → Plan
+row c = plan_at (view c.args.words.now c.args.descriptors.now c.args.names.now) c.args.q
 
 pub overflow_add-own : goal.overflow_add-own
 overflow_add-own c = omega (arith, process_lt c.requires.0)
@@ -38,17 +39,17 @@ unfolding view ◌∪◌ plan_at plan_by plan_of flow_by kinds descriptor kind_n
 returns-in-9 c =
     let D = c.args.descriptors.now in
     let N = c.args.names.now in
-    rw (c.giving-in-9.ensures, c.reach-in-9.ensures D N, c.items-in-9.ensures, c.descriptor-to-in-9.ensures, below64 (leads_to c.requires.0 write c.in-8.keys2 refl)) (kind_arm (row c) (9 ∷ []) _ refl _ c.in-8.keys2)
+    rw (c.giving-in-9.ensures, c.reach-in-9.ensures D N, c.items-in-9.ensures, c.descriptor-to-in-9.ensures, below64 (leads_to c.requires.0 write c.in-9.keys2 refl)) (kind_arm (row c) (9 ∷ []) _ refl _ c.in-9.keys2)
 
 pub returns-in-19 : goal.returns-in-19
 unfolding view ◌∪◌ plan_at plan_by plan_of flow_by kinds descriptor kind_number ranges need_of
 returns-in-19 c =
     let D = c.args.descriptors.now in
     let N = c.args.names.now in
-    rw (c.giving-in-19.ensures, c.reach-in-19.ensures D N, c.with.ensures, below64 (container_a c.requires.0 label c.in-8.keys3 refl), below64 (item_b c.requires.0 label c.in-8.keys3 refl)) (kind_arm (row c) (19 ∷ []) _ refl _ c.in-8.keys3)
+    rw (c.giving-in-19.ensures, c.reach-in-19.ensures D N, c.with.ensures, below64 (container_a c.requires.0 label c.in-19.keys3 refl), below64 (item_b c.requires.0 label c.in-19.keys3 refl)) (kind_arm (row c) (19 ∷ []) _ refl _ c.in-19.keys3)
 
 -- no other kind gives once
 pub returns-in_default : goal.returns-in_default
 unfolding plan_at plan_by plan_of flow_by kinds
 returns-in_default c =
-    c.giving-in_default.ensures ∙ kind_rest (row c) ((17 ∷ []) ∷ (12 ∷ []) ∷ (19 ∷ []) ∷ (9 ∷ []) ∷ (8 ∷ 11 ∷ []) ∷ []) refl _ ((c.in-8.rest, c.requires.1.1), c.requires.1.2)
+    c.giving-in_default.ensures ∙ kind_rest (row c) ((17 ∷ []) ∷ (12 ∷ []) ∷ (19 ∷ []) ∷ (9 ∷ []) ∷ (8 ∷ 11 ∷ []) ∷ []) refl _ ((c.in_default.rest, c.requires.1.1), c.requires.1.2)

@@ -7,10 +7,13 @@ use Rattle.tracker.proofs.Arms.{kind_arm, kind_rest}
 use Rattle.tracker.proofs.plan.gives.Goals as goal
 
 pub returns-in-8 : goal.returns-in-8
+unfolding gives_by gives_at kinds
 returns-in-8 c = kind_arm gives_at (8 ∷ 11 ∷ 17 ∷ 19 ∷ []) _ refl _ c.in-8.keys1
 
 pub returns-in-9 : goal.returns-in-9
-returns-in-9 c = kind_arm gives_at (9 ∷ 12 ∷ []) _ refl _ c.in-8.keys2
+unfolding gives_by gives_at kinds
+returns-in-9 c = kind_arm gives_at (9 ∷ 12 ∷ []) _ refl _ c.in-9.keys2
 
 pub returns-in_default : goal.returns-in_default
-returns-in_default c = kind_rest gives_at ((9 ∷ 12 ∷ []) ∷ (8 ∷ 11 ∷ 17 ∷ 19 ∷ []) ∷ []) refl _ c.in-8.rest
+unfolding gives_by gives_at kinds
+returns-in_default c = kind_rest gives_at ((9 ∷ 12 ∷ []) ∷ (8 ∷ 11 ∷ 17 ∷ 19 ∷ []) ∷ []) refl _ c.in_default.rest

@@ -4,15 +4,14 @@ use borrow.Author.Rules.{rules}
 use Rattle.sets.specs.Sets.{count}
 use Rattle.tracker.proofs.Holders.{Partly, partly_none, Turn, partly_more, partly_all}
 use Rattle.tracker.proofs.queries.fill.Goals as goal
+use Rattle.tracker.proofs.queries.fill.Goals.{After-lowest-c}
 
-turn : (b : tie.After-lowest invariant-loop decreases-loop) →
-    Turn b.before.before.before.before.args.x b.before.before.before.before.args.out.now b.before.before.loop.out b.before.before.loop.left
-    b.before.before.loop.n b.lowest.result
-turn b =
-    let at = b.before.before in
-    let start = at.before.before in
-    partly_more start.args.x start.args.out.now at.loop.out at.loop.left at.loop.n at.loop.invariant b.before.loop-test.true start.requires
-    b.lowest.result b.lowest.ensures
+turn : (c : After-lowest-c) →
+    Turn c.args.x c.args.out.now c.loop-left.out c.loop-left.false
+    c.loop-left.n c.lowest-c.result
+turn c =
+    partly_more c.args.x c.args.out.now c.loop-left.out c.loop-left.false c.loop-left.n c.loop-left.invariant c.loop-left-test.true c.requires
+    c.lowest-c.result c.lowest-c.ensures
 
 pub loop-left-init : goal.loop-left-init
 loop-left-init c = partly_none c.args.x c.args.out.now c.ranges.x.fits
@@ -27,13 +26,13 @@ pub overflow_cast-c : goal.overflow_cast-c
 overflow_cast-c c = omega (arith, (turn c).below)
 
 pub overflow_add-n : goal.overflow_add-n
-overflow_add-n c = omega (arith, (turn c).room)
+overflow_add-n c = omega (arith, (turn (goal.at.overflow_add-n c).After-lowest-c).room)
 
 pub loop-left-smaller : goal.loop-left-smaller
-loop-left-smaller c = (turn c).fewer c.without-left.result c.without-left.ensures
+loop-left-smaller c = (turn (goal.at.loop-left-smaller c).After-lowest-c).fewer c.without-left.result c.without-left.ensures
 
 pub loop-left-preserved : goal.loop-left-preserved
-loop-left-preserved c = (turn c).next c.without-left.result c.without-left.ensures
+loop-left-preserved c = (turn (goal.at.loop-left-preserved c).After-lowest-c).next c.without-left.result c.without-left.ensures
 
 pub shape_of-out : goal.shape_of-out
 shape_of-out c = c.loop-left.invariant.long

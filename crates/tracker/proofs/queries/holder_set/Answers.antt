@@ -17,4 +17,5 @@ loop-c-preserved c =
     (search rules, found_next (part 1 64 a.words.now) (a.i % 64) c.loop-c.c c.loop-c.x c.with_holder-x.result (omega arith) c.loop-c.invariant.1 (rw c.items-held.ensures at c.with_holder-x.ensures))
 
 pub returns : goal.returns
+unfolding view
 returns c = let a = c.args in let done : c.loop-c.c ≡ 64 = omega arith in λ d n rules. rw done at c.loop-c.invariant.1 ∙ found_all (state (view a.words.now d n) rules) (a.i % 64)

@@ -16,10 +16,11 @@ use Rattle.tracker.proofs.Facts.{process_lt, slot_a, file_c, leads_to}
 use Rattle.tracker.proofs.Finding.{free_entry}
 use borrow.Author.Rules.{rules}
 use Rattle.tracker.proofs.release.emptied_by.Goals as goal
+use Rattle.tracker.proofs.release.emptied_by.Goals.{Start}
 
 -- the row of the table for a kind, s being what is known at the start
-abbrev row : tie.Start → Option Kind → ℕ
-row s = emptied_at (view s.args.words.now s.args.descriptors.now s.args.names.now).tables s.args.q
+abbrev row : (c : Start) → Option Kind → ℕ
+row c = emptied_at (view c.args.words.now c.args.descriptors.now c.args.names.now).tables c.args.q
 
 pub overflow_add-result : goal.overflow_add-result
 overflow_add-result c = omega (arith, process_lt c.requires)
@@ -27,16 +28,20 @@ overflow_add-result c = omega (arith, process_lt c.requires)
 pub returns-in-10 : goal.returns-in-10
 unfolding view emptied_at emptied_by kinds descriptor kind_number ranges need_of
 returns-in-10 c =
-    rw (c.free.ensures c.args.descriptors.now c.args.names.now, c.at_slot.ensures, slot_a c.requires truncate c.in-1.keys4 refl, free_entry _ _ (leads_to c.requires truncate c.in-1.keys4 refl)) (kind_arm (row c) (10 ∷ []) _ refl _ c.in-1.keys4)
+    rw (c.free.ensures c.args.descriptors.now c.args.names.now, c.at_slot.ensures, slot_a c.requires truncate c.in-10.keys4 refl, free_entry _ _ (leads_to c.requires truncate c.in-10.keys4 refl)) (kind_arm (row c) (10 ∷ []) _ refl _ c.in-10.keys4)
 
 pub returns-in-1 : goal.returns-in-1
+unfolding view emptied_at emptied_by kinds kind_number ranges container_set
 returns-in-1 c = container_set_low _ (omega (arith, process_lt c.requires)) ∙ kind_arm (row c) (1 ∷ []) _ refl _ c.in-1.keys1
 
 pub returns-in-3 : goal.returns-in-3
-returns-in-3 c = container_set_low _ (file_c c.requires create c.in-1.keys2 refl) ∙ kind_arm (row c) (3 ∷ []) _ refl _ c.in-1.keys2
+unfolding view emptied_at emptied_by kinds kind_number ranges container_set
+returns-in-3 c = container_set_low _ (file_c c.requires create c.in-3.keys2 refl) ∙ kind_arm (row c) (3 ∷ []) _ refl _ c.in-3.keys2
 
 pub returns-in-4 : goal.returns-in-4
-returns-in-4 c = container_set_low _ (file_c c.requires pipe c.in-1.keys3 refl) ∙ kind_arm (row c) (4 ∷ []) _ refl _ c.in-1.keys3
+unfolding view emptied_at emptied_by kinds kind_number ranges container_set
+returns-in-4 c = container_set_low _ (file_c c.requires pipe c.in-4.keys3 refl) ∙ kind_arm (row c) (4 ∷ []) _ refl _ c.in-4.keys3
 
 pub returns-in_default : goal.returns-in_default
-returns-in_default c = kind_rest (row c) ((10 ∷ []) ∷ (4 ∷ []) ∷ (3 ∷ []) ∷ (1 ∷ []) ∷ []) refl _ c.in-1.rest
+unfolding view emptied_at emptied_by kinds kind_number ranges container_set
+returns-in_default c = kind_rest (row c) ((10 ∷ []) ∷ (4 ∷ []) ∷ (3 ∷ []) ∷ (1 ∷ []) ∷ []) refl _ c.in_default.rest

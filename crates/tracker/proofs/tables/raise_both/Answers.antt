@@ -12,12 +12,13 @@ use Rattle.tracker.proofs.Arms.{kind_arm}
 use Rattle.tracker.proofs.Facts.{process_lt, leads_to, room_both}
 use borrow.Author.Rules.{rules}
 use Rattle.tracker.proofs.tables.raise_both.Goals as goal
+use Rattle.tracker.proofs.tables.raise_both.Goals.{Start}
 
-abbrev before : tie.Start → Maps
-before s = view s.args.words.now s.args.descriptors.now s.args.names.now
+abbrev before : (c : Start) → Maps
+before c = view c.args.words.now c.args.descriptors.now c.args.names.now
 
-abbrev row : tie.Start → Option Kind → Maps
-row s o = with_tables (before s) (tables_at (before s).tables s.args.q o)
+abbrev row : (c : Start) → Option Kind → Maps
+row c o = with_tables (before c) (tables_at (before c).tables c.args.q o)
 
 pub raise-requires : goal.raise-requires
 unfolding sort_of kind_number need_of

@@ -15,19 +15,20 @@ use Rattle.tracker.proofs.Arms.{kind_arm, kind_rest}
 use Rattle.tracker.proofs.Facts.{process_lt, leads_to, room_read}
 use borrow.Author.Rules.{rules}
 use Rattle.tracker.proofs.tables.raise_read.Goals as goal
+use Rattle.tracker.proofs.tables.raise_read.Goals.{Start}
 
 -- the row of the table for a kind that can give; of the others nothing is asked
-abbrev before : tie.Start → Maps
-before s = view s.args.words.now s.args.descriptors.now s.args.names.now
+abbrev before : (c : Start) → Maps
+before c = view c.args.words.now c.args.descriptors.now c.args.names.now
 
-abbrev row : tie.Start → Option Kind → Maps
-row s o = with_tables (before s) (tables_at (before s).tables s.args.q o)
+abbrev row : (c : Start) → Option Kind → Maps
+row c o = with_tables (before c) (tables_at (before c).tables c.args.q o)
 
-abbrev asked : tie.Start → Option Kind → Maps
-asked s o = elim (gives_at o) as (λ z. Maps) [ true ↦ row s o | false ↦ before s ]
+abbrev asked : (c : Start) → Option Kind → Maps
+asked c o = elim (gives_at o) as (λ z. Maps) [ true ↦ row c o | false ↦ before c ]
 
-is_row : (s : tie.Start) → asked s (kind_of s.args.q.kind) ≡ row s (kind_of s.args.q.kind)
-is_row s = chosen_l (gives_at (kind_of s.args.q.kind)) _ _ s.requires.1.0
+is_row : (c : Start) → asked c (kind_of c.args.q.kind) ≡ row c (kind_of c.args.q.kind)
+is_row c = chosen_l (gives_at (kind_of c.args.q.kind)) _ _ c.requires.1.0
 
 pub raise-requires : goal.raise-requires
 unfolding sort_of kind_number need_of
@@ -43,4 +44,4 @@ returns-in-11 c =
 pub returns-in_default : goal.returns-in_default
 unfolding tables_at tables_by kinds gives_at gives_by
 returns-in_default c =
-    kind_rest (asked c) ((17 ∷ []) ∷ (12 ∷ []) ∷ (11 ∷ []) ∷ []) refl _ ((c.in-11.rest, c.requires.1.1), c.requires.1.2) ∙ is_row c
+    kind_rest (asked c) ((17 ∷ []) ∷ (12 ∷ []) ∷ (11 ∷ []) ∷ []) refl _ ((c.in_default.rest, c.requires.1.1), c.requires.1.2) ∙ is_row (goal.at.returns-in_default c).Start

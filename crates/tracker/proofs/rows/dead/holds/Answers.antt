@@ -12,12 +12,15 @@ use Rattle.tracker.specs.Rows.{dead_at}
 use Rattle.tracker.proofs.Arms.{kind_arm, kind_rest}
 use borrow.Author.Rules.{rules}
 use Rattle.tracker.proofs.rows.dead.holds.Goals as goal
+use Rattle.tracker.proofs.rows.dead.holds.Goals.{Start}
 
-abbrev row : tie.Start → Option Kind → Bool
+abbrev row : (c : Start) → Option Kind → Bool
 row c = dead_at (view c.args.words.now c.args.descriptors.now c.args.names.now).tables c.args.q
 
 pub returns-in-1 : goal.returns-in-1
-returns-in-1 c = kind_arm (row (c)) (1 ∷ 19 ∷ []) _ refl _ c.in-1.keys1
+unfolding view dead_at dead kinds is_kind kind_number is_live
+returns-in-1 c = kind_arm (row (goal.at.returns-in-1 c).Start) (1 ∷ 19 ∷ []) _ refl _ c.in-1.keys1
 
 pub returns-in_default : goal.returns-in_default
-returns-in_default c = rw c.is_live.ensures (kind_rest (row (c)) ((1 ∷ 19 ∷ []) ∷ []) refl _ c.in-1.rest)
+unfolding view dead_at dead kinds is_kind kind_number is_live
+returns-in_default c = rw c.is_live.ensures (kind_rest (row (goal.at.returns-in_default c).Start) ((1 ∷ 19 ∷ []) ∷ []) refl _ c.in_default.rest)

@@ -12,11 +12,12 @@ use Rattle.tracker.specs.Rows.{full_at}
 use Rattle.tracker.proofs.Arms.{kind_arm, kind_rest}
 use borrow.Author.Rules.{rules}
 use Rattle.tracker.proofs.rows.full.holds.Goals as goal
+use Rattle.tracker.proofs.rows.full.holds.Goals.{Start}
 
 or_none : (b : Bool) → (b || false) ≡ b
 or_none b = or_comm b false
 
-abbrev row : tie.Start → Option Kind → Bool
+abbrev row : (c : Start) → Option Kind → Bool
 row c = full_at (view c.args.words.now c.args.descriptors.now c.args.names.now).tables c.args.q
 
 pub returns-in-11 : goal.returns-in-11
@@ -27,7 +28,8 @@ returns-in-11 c =
 pub returns-in-12 : goal.returns-in-12
 unfolding view full_at full kinds is_kind kind_number descriptor sort_of
 returns-in-12 c =
-    c.is_full-in-12.ensures c.args.descriptors.now c.args.names.now ∙ rw c.descriptor-in-12.ensures (kind_arm (row c) (12 ∷ []) _ refl _ c.in-11.keys2)
+    c.is_full-in-12.ensures c.args.descriptors.now c.args.names.now ∙ rw c.descriptor-in-12.ensures (kind_arm (row c) (12 ∷ []) _ refl _ c.in-12.keys2)
 
 pub returns-in_default : goal.returns-in_default
-returns-in_default c = kind_rest (row c) ((12 ∷ []) ∷ (11 ∷ []) ∷ []) refl _ c.in-11.rest
+unfolding view full_at full kinds is_kind kind_number descriptor sort_of
+returns-in_default c = kind_rest (row c) ((12 ∷ []) ∷ (11 ∷ []) ∷ []) refl _ c.in_default.rest

@@ -16,8 +16,9 @@ use Rattle.tracker.specs.Rows.{missing_at, number_unless}
 use Rattle.tracker.proofs.Arms.{kind_arm, kind_between, kind_from}
 use borrow.Author.Rules.{rules}
 use Rattle.tracker.proofs.rows.missing.holds.Goals as goal
+use Rattle.tracker.proofs.rows.missing.holds.Goals.{Start}
 
-abbrev row : tie.Start → Option Kind → Test
+abbrev row : (c : Start) → Option Kind → Test
 row c = missing_at (view c.args.words.now c.args.descriptors.now c.args.names.now).tables c.args.q
 
 -- the number as a test; it is one more than n, and so not 0
@@ -30,18 +31,18 @@ pub returns-in-13 : goal.returns-in-13
 unfolding view missing_at need_of missing kinds is_open is_bound descriptor name
 returns-in-13 c =
     rw (c.unless.ensures, c.maps.ensures c.args.descriptors.now c.args.names.now)
-    (as_test _ 15 ∙ ap (λ (b : Bool). b ⇒ 16) (not-not _) ∙ kind_arm (row c) (13 ∷ []) _ refl _ c.in-2-1.keys2)
+    (as_test _ 15 ∙ ap (λ (b : Bool). b ⇒ 16) (not-not _) ∙ kind_arm (row c) (13 ∷ []) _ refl _ c.in-13.keys2)
 
 pub returns-in-19 : goal.returns-in-19
 unfolding view missing_at need_of missing kinds is_open is_bound descriptor name
 returns-in-19 c =
-    rw (c.unless-in-19.ensures, c.in_use.ensures) (as_test _ 7 ∙ kind_arm (row c) (19 ∷ []) _ refl _ c.in-2-1.keys3)
+    rw (c.unless-in-19.ensures, c.in_use.ensures) (as_test _ 7 ∙ kind_arm (row c) (19 ∷ []) _ refl _ c.in-19.keys3)
 
 pub returns-in-6 : goal.returns-in-6
 unfolding view missing_at need_of missing kinds is_open is_bound descriptor name
 returns-in-6 c =
     rw (c.unless-in-6.ensures, c.is_open.ensures)
-    (as_test _ 13 ∙ kind_between (row c) ((19 ∷ []) ∷ (13 ∷ []) ∷ (2 ∷ []) ∷ []) 6 13 _ refl _ c.in-2-1.rest c.if-kind-lt6.false c.if-kind-lt13.true (omega arith))
+    (as_test _ 13 ∙ kind_between (row c) ((19 ∷ []) ∷ (13 ∷ []) ∷ (2 ∷ []) ∷ []) 6 13 _ refl _ c.in_default-1.rest c.if-kind-lt6.false c.if-kind-lt13.true (omega arith))
 
 pub returns-in-2 : goal.returns-in-2
 unfolding view missing_at need_of missing kinds is_open is_bound descriptor name
@@ -53,7 +54,9 @@ returns-in-2 c =
     c.in-2-1.branch)
 
 pub returns-in_default : goal.returns-in_default
-returns-in_default c = kind_between (row c) ((19 ∷ []) ∷ (13 ∷ []) ∷ (2 ∷ []) ∷ []) 0 6 _ refl _ c.in-2-1.rest (omega arith) c.if-kind-lt6.true (omega arith)
+unfolding view missing_at need_of missing kinds is_open is_bound descriptor name refusal_from
+returns-in_default c = kind_between (row c) ((19 ∷ []) ∷ (13 ∷ []) ∷ (2 ∷ []) ∷ []) 0 6 _ refl _ c.in_default-1.rest (omega arith) c.if-kind-lt6.true (omega arith)
 
 pub returns-in_default-2 : goal.returns-in_default-2
-returns-in_default-2 c = kind_from (row c) ((19 ∷ []) ∷ (13 ∷ []) ∷ (2 ∷ []) ∷ []) 17 refl _ c.in-2-1.rest c.if-kind-lt17.false
+unfolding view missing_at need_of missing kinds is_open is_bound descriptor name refusal_from
+returns-in_default-2 c = kind_from (row c) ((19 ∷ []) ∷ (13 ∷ []) ∷ (2 ∷ []) ∷ []) 17 refl _ c.in_default-1.rest c.if-kind-lt17.false
