@@ -122,10 +122,9 @@ class Fn:
         for h, kind in self.helpers.items():
             if kind == "place" or kind is None:
                 continue
-            pat = re.compile(rf"(?<![\w.'-])({re.escape(h)}) (\(?{ID}(?:\.before)*\)?)(?![\w'.-])")
+            pat = re.compile(rf"(?<![\w.'-])({re.escape(h)}) (\({ID}(?:\.before)*\)|{ID}(?:\.before)*)(?![\w'.-])")
             def rep2(m):
-                bare = m.group(2).startswith("(") == m.group(2).endswith(")")
-                if not bare or m.group(2).strip("()").split(".")[0] not in env:
+                if m.group(2).strip("()").split(".")[0] not in env:
                     return m.group(0)
                 place = self.newplace.get(norm(kind), kind)
                 if need is None:
@@ -147,7 +146,8 @@ class Fn:
             f = fields[0]
             if norm(f) in steps:
                 fields[0] = steps[norm(f)]
-            if fields[0] != "args":
+            told = fields[0] if fields[0] == "args" or (len(fields) > 1 and fields[1] in ("taken", "left") and not re.match(r"if-|loop\S*-test", fields[0])) else None
+            if told is None:
                 fields = [FIELDS.get(x, x) for x in fields]
             return "c." + ".".join(fields)
         text = pat.sub(rep3, text)

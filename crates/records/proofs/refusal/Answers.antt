@@ -17,8 +17,8 @@ returns-then-cut_short c = sym (framed _ true _ _ (sym c.cut_short.ensures ∙ c
 
 pub returns-then-tag-eq-CALL_TAG : goal.returns-then-tag-eq-CALL_TAG
 unfolding first_that ◌⇒◌ refusal_from tag_of
-returns-then-tag-eq-CALL_TAG c = c.unfit.ensures ∙ uncut _ _ _ (whole c) (sym c.if-tag-eq-CALL_TAG.true ∙ c.at-tag.ensures) c.stated_length-stated.ensures
+returns-then-tag-eq-CALL_TAG c = c.unfit.ensures ∙ uncut _ _ _ (whole (goal.at.returns-then-tag-eq-CALL_TAG c).After-stated_length-stated) (sym c.if-tag-eq-CALL_TAG.true ∙ c.at-tag.ensures) c.stated_length-stated.ensures
 
 pub returns : goal.returns
 unfolding first_that ◌⇒◌ refusal_from tag_of
-returns c = c.unfit-2.ensures ∙ uncut _ _ _ (whole c) c.at-tag.ensures c.stated_length-stated.ensures
+returns c = c.unfit-2.ensures ∙ uncut _ _ _ (whole (goal.at.returns c).After-stated_length-stated) c.at-tag.ensures c.stated_length-stated.ensures

@@ -23,29 +23,29 @@ met c = monitor c.args.words.now c.args.descriptors.now c.args.names.now c.args.
 pub returns-then-not-gives : goal.returns-then-not-gives
 unfolding view
 returns-then-not-gives c =
-    allowed_call (met c) c.args.q (long c) (named c) _ c.refusal-n.ensures c.if-n-ne0.false _ _ _
-    (gives_nothing (met c) c.args.q (long c) (sym c.gives.ensures ∙ not-true _ c.if-not-gives.true) _ _ _ c.finish.ensures) refl refl
+    allowed_call (met (goal.at.returns-then-not-gives c).Start) c.args.q (long (goal.at.returns-then-not-gives c).After-lengths) (named (goal.at.returns-then-not-gives c).After-lengths) _ c.refusal-n.ensures c.if-n-ne0.false _ _ _
+    (gives_nothing (met (goal.at.returns-then-not-gives c).Start) c.args.q (long (goal.at.returns-then-not-gives c).After-lengths) (sym c.gives.ensures ∙ not-true _ c.if-not-gives.true) _ _ _ c.finish.ensures) refl refl
 
 pub stop_in-d-requires : goal.stop_in-d-requires
 stop_in-d-requires c = (
-  stopped_lt (met c) c.args.q (long c) (named c) _ c.refusal-n.ensures c.if-n-ne0.false _ _ _ c.give_in-g.ensures c.if-g-ne-RULE_COUNT.true,
-  stopped_passes (met c) c.args.q (long c) (named c) _ c.refusal-n.ensures c.if-n-ne0.false _ _ _ c.give_in-g.ensures c.if-g-ne-RULE_COUNT.true,
+  stopped_lt (met (goal.at.stop_in-d-requires c).Start) c.args.q (long (goal.at.stop_in-d-requires c).After-lengths) (named (goal.at.stop_in-d-requires c).After-lengths) _ c.refusal-n.ensures c.if-n-ne0.false _ _ _ c.give_in-g.ensures c.if-g-ne-RULE_COUNT.true,
+  stopped_passes (met (goal.at.stop_in-d-requires c).Start) c.args.q (long (goal.at.stop_in-d-requires c).After-lengths) (named (goal.at.stop_in-d-requires c).After-lengths) _ c.refusal-n.ensures c.if-n-ne0.false _ _ _ c.give_in-g.ensures c.if-g-ne-RULE_COUNT.true,
 )
 
 pub returns-then-d-lt-CONTAINERS : goal.returns-then-d-lt-CONTAINERS
 returns-then-d-lt-CONTAINERS c =
-    stopped_call (met c) c.args.q (long c) (named c) _ c.refusal-n.ensures c.if-n-ne0.false _ _ _ c.give_in-g.ensures c.if-g-ne-RULE_COUNT.true _
+    stopped_call (met (goal.at.returns-then-d-lt-CONTAINERS c).Start) c.args.q (long (goal.at.returns-then-d-lt-CONTAINERS c).After-lengths) (named (goal.at.returns-then-d-lt-CONTAINERS c).After-lengths) _ c.refusal-n.ensures c.if-n-ne0.false _ _ _ c.give_in-g.ensures c.if-g-ne-RULE_COUNT.true _
     (λ x d. rw (← diverted_by c.give_in-g.result.rule c.stop_in-d.result.to c.stop_in-d.result.gained c.if-d-lt-CONTAINERS.true) (c.stop_in-d.ensures x d))
 
 pub returns-then-g-ne-RULE_COUNT : goal.returns-then-g-ne-RULE_COUNT
 returns-then-g-ne-RULE_COUNT c =
-    stopped_call (met c) c.args.q (long c) (named c) _ c.refusal-n.ensures c.if-n-ne0.false _ _ _ c.give_in-g.ensures c.if-g-ne-RULE_COUNT.true _
+    stopped_call (met (goal.at.returns-then-g-ne-RULE_COUNT c).Start) c.args.q (long (goal.at.returns-then-g-ne-RULE_COUNT c).After-lengths) (named (goal.at.returns-then-g-ne-RULE_COUNT c).After-lengths) _ c.refusal-n.ensures c.if-n-ne0.false _ _ _ c.give_in-g.ensures c.if-g-ne-RULE_COUNT.true _
     (λ x d. rw (← inhibited_by c.give_in-g.result.rule c.stop_in-d.result.to c.stop_in-d.result.gained c.if-d-lt-CONTAINERS.false) (c.stop_in-d.ensures x d))
 
 pub returns : goal.returns
 unfolding view
 returns c =
-    allowed_call (met c) c.args.q (long c) (named c) _ c.refusal-n.ensures c.if-n-ne0.false _ _ _ c.give_in-g.ensures c.if-g-ne-RULE_COUNT.false refl
+    allowed_call (met (goal.at.returns c).Start) c.args.q (long (goal.at.returns c).After-lengths) (named (goal.at.returns c).After-lengths) _ c.refusal-n.ensures c.if-n-ne0.false _ _ _ c.give_in-g.ensures c.if-g-ne-RULE_COUNT.false refl
 
 pub returns-then-n-ne0 : goal.returns-then-n-ne0
 returns-then-n-ne0 c = refused_call _ _ _ c.refusal-n.ensures c.if-n-ne0.true

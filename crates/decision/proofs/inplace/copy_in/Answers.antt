@@ -19,7 +19,7 @@ met c = monitor c.args.words.now c.args.descriptors.now c.args.names.now c.args.
 
 pub returns-then-k-count : goal.returns-then-k-count
 returns-then-k-count c =
-    gives_stopped (met c) _ _ c.copy_of-plan.ensures _ c.first_anew-k.ensures (λ e. c.if-k-count.true (e ∙ sym c.count.ensures)) 0
+    gives_stopped (met (goal.at.returns-then-k-count c).Start) _ _ c.copy_of-plan.ensures _ c.first_anew-k.ensures (λ e. c.if-k-count.true (e ∙ sym c.count.ensures)) 0
 
 pub overflow_add-child : goal.overflow_add-child
 unfolding kind_number ranges
@@ -34,7 +34,7 @@ finish_copy-requires c =
 pub returns : goal.returns
 unfolding kind_number ranges
 returns c =
-    gives_made (met c) _ _ c.copy_of-plan.ensures _ c.first_anew-k.ensures (c.if-k-count.false ∙ c.count.ensures) _ (copies (maps (met c)) c.args.q c.requires.1 (own_a c.requires.0 fork c.requires.1 refl) _ (ap (λ (x : Plan). x.given) c.copy_of-plan.ensures)) _ _ c.replace_items-gained.ensures _ _ _ c.finish_copy.ensures
+    gives_made (met (goal.at.returns c).Start) _ _ c.copy_of-plan.ensures _ c.first_anew-k.ensures (c.if-k-count.false ∙ c.count.ensures) _ (copies (maps (met (goal.at.returns c).Start)) c.args.q c.requires.1 (own_a c.requires.0 fork c.requires.1 refl) _ (ap (λ (x : Plan). x.given) c.copy_of-plan.ensures)) _ _ c.replace_items-gained.ensures _ _ _ c.finish_copy.ensures
 
 pub copy_of-plan-requires : goal.copy_of-plan-requires
 copy_of-plan-requires c = c.requires

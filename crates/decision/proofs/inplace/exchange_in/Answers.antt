@@ -15,7 +15,7 @@ met c = monitor c.args.words.now c.args.descriptors.now c.args.names.now c.args.
 
 pub returns-then-k-count : goal.returns-then-k-count
 returns-then-k-count c =
-    gives_stopped (met c) _ _ c.exchange_of-plan.ensures _ c.first_anew-k.ensures (λ e. c.if-k-count.true (e ∙ sym c.count.ensures)) 0
+    gives_stopped (met (goal.at.returns-then-k-count c).Start) _ _ c.exchange_of-plan.ensures _ c.first_anew-k.ensures (λ e. c.if-k-count.true (e ∙ sym c.count.ensures)) 0
 
 pub finish_exchange-requires : goal.finish_exchange-requires
 finish_exchange-requires c =
@@ -23,7 +23,7 @@ finish_exchange-requires c =
 
 pub returns : goal.returns
 returns c =
-    gives_made (met c) _ _ c.exchange_of-plan.ensures _ c.first_anew-k.ensures (c.if-k-count.false ∙ c.count.ensures) _ (ap gifts c.exchange_of-plan.ensures ∙ gifts_alone (maps (met c)) c.args.q (both_no_fork _ c.requires.1)) _ _ c.make_items-gained.ensures _ _ _ c.finish_exchange.ensures
+    gives_made (met (goal.at.returns c).Start) _ _ c.exchange_of-plan.ensures _ c.first_anew-k.ensures (c.if-k-count.false ∙ c.count.ensures) _ (ap gifts c.exchange_of-plan.ensures ∙ gifts_alone (maps (met (goal.at.returns c).Start)) c.args.q (both_no_fork _ c.requires.1)) _ _ c.make_items-gained.ensures _ _ _ c.finish_exchange.ensures
 
 pub exchange_of-plan-requires : goal.exchange_of-plan-requires
 exchange_of-plan-requires c = c.requires

@@ -29,12 +29,12 @@ overflow_add-own c =
 pub returns-then-judge-count : goal.returns-then-judge-count
 returns-then-judge-count c =
     let a = c.args in
-    λ x e. rw (inhibited_is _ _ c.inhibited-then-judge-count.ensures) (stop_broken (monitor a.words.now a.descriptors.now a.names.now a.sets.now a.fields.now) a.q x e a.k _ c.substitute-c.ensures _ c.in_use.ensures _ c.action-diverts.ensures c.if-not-diverts-q.false c.if-not-in_use.false (long c) _ c.items.ensures _ (c.reach.ensures a.descriptors.now a.names.now) _ c.giving-plan.ensures _ c.judge.ensures (λ d. c.if-judge-count.true (d ∙ sym c.count.ensures)))
+    λ x e. rw (inhibited_is _ _ c.inhibited-then-judge-count.ensures) (stop_broken (monitor a.words.now a.descriptors.now a.names.now a.sets.now a.fields.now) a.q x e a.k _ c.substitute-c.ensures _ c.in_use.ensures _ c.action-diverts.ensures c.if-not-diverts-q.false c.if-not-in_use.false (long (goal.at.returns-then-judge-count c).After-lengths) _ c.items.ensures _ (c.reach.ensures a.descriptors.now a.names.now) _ c.giving-plan.ensures _ c.judge.ensures (λ d. c.if-judge-count.true (d ∙ sym c.count.ensures)))
 
 pub returns : goal.returns
 returns c =
     let a = c.args in
-    λ x e. stop_diverts (monitor a.words.now a.descriptors.now a.names.now a.sets.now a.fields.now) a.q x e a.k _ c.substitute-c.ensures _ c.in_use.ensures _ c.action-diverts.ensures c.if-not-diverts-q.false c.if-not-in_use.false (long c) _ c.items.ensures _ (c.reach.ensures a.descriptors.now a.names.now) _ c.giving-plan.ensures _ c.judge.ensures (c.if-judge-count.false ∙ c.count.ensures) _ _ c.make_items-gained.ensures
+    λ x e. stop_diverts (monitor a.words.now a.descriptors.now a.names.now a.sets.now a.fields.now) a.q x e a.k _ c.substitute-c.ensures _ c.in_use.ensures _ c.action-diverts.ensures c.if-not-diverts-q.false c.if-not-in_use.false (long (goal.at.returns c).After-lengths) _ c.items.ensures _ (c.reach.ensures a.descriptors.now a.names.now) _ c.giving-plan.ensures _ c.judge.ensures (c.if-judge-count.false ∙ c.count.ensures) _ _ c.make_items-gained.ensures
 
 pub action-diverts-requires : goal.action-diverts-requires
 action-diverts-requires c = c.requires.0

@@ -46,7 +46,7 @@ unfolding condition_at ◌∪◌
 loop-k-preserved c =
     let whole =
     ⊎_elim (λ w. sym (w.3.ensures _ w.1.left) ∙ w.4.left)
-    (λ w. far _ _ _ _ _ (gained_lt c) (sym c.touches.ensures ∙ w.left)) c.if-touches.branch in
+    (λ w. far _ _ _ _ _ (gained_lt (goal.at.loop-k-preserved c).Start) (sym c.touches.ensures ∙ w.left)) c.if-touches.branch in
     (c.loop-k.invariant.0, c.loop-k.invariant.1, seek_miss _ _ _ _ c.loop-k.invariant.2 (omega arith) whole)
 
 pub returns-then-given-eq0 : goal.returns-then-given-eq0

@@ -23,19 +23,19 @@ module _ (c : After-entries-1) where
 
 pub bounds-entries-at : goal.bounds-entries-at
 bounds-entries-at c =
-    let e : length c.loop-d.entries ≡ length (list c) = ap length c.loop-d.invariant.1 ∙ laid_long (list c) (start c) (replicate 32 closed) c.loop-d.d (omega (arith, long c)) (omega arith) in
-    omega (arith, long c)
+    let e : length c.loop-d.entries ≡ length (list (goal.at.bounds-entries-at c).After-entries-1) = ap length c.loop-d.invariant.1 ∙ laid_long (list (goal.at.bounds-entries-at c).After-entries-1) (start (goal.at.bounds-entries-at c).After-entries-1) (replicate 32 closed) c.loop-d.d (omega (arith, long (goal.at.bounds-entries-at c).After-entries-1)) (omega arith) in
+    omega (arith, long (goal.at.bounds-entries-at c).After-entries-1)
 
 pub loop-d-preserved : goal.loop-d-preserved
 loop-d-preserved c =
     let d : ℕ = c.loop-d.d in
     let below : d < 32 = c.loop-d-test.true in
-    (search rules, ap (λ (x : List ℕ). set x (start (goal.at.loop-d-preserved c).After-entries-1 + d) closed) c.loop-d.invariant.1 ∙ laid_more (list c) (start c) (replicate 32 closed) d closed (omega (arith, long c)) below (closed_at d below))
+    (search rules, ap (λ (x : List ℕ). set x (start (goal.at.loop-d-preserved c).After-entries-1 + d) closed) c.loop-d.invariant.1 ∙ laid_more (list (goal.at.loop-d-preserved c).After-entries-1) (start (goal.at.loop-d-preserved c).After-entries-1) (replicate 32 closed) d closed (omega (arith, long (goal.at.loop-d-preserved c).After-entries-1)) below (closed_at d below))
 
 pub returns : goal.returns
 returns c =
     let done : c.loop-d.d ≡ 32 = omega arith in
-    c.loop-d.invariant.1 ∙ ap (laid (list c) (start c) (replicate 32 closed)) done ∙ laid_all (list c) (start c) (replicate 32 closed) _ refl refl
+    c.loop-d.invariant.1 ∙ ap (laid (list (goal.at.returns c).After-entries-1) (start (goal.at.returns c).After-entries-1) (replicate 32 closed)) done ∙ laid_all (list (goal.at.returns c).After-entries-1) (start (goal.at.returns c).After-entries-1) (replicate 32 closed) _ refl refl
 
 pub loop-d-init : goal.loop-d-init
 loop-d-init c = (search rules, laid_none _ _ _)

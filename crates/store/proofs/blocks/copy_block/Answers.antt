@@ -40,25 +40,25 @@ pub loop-d-preserved : goal.loop-d-preserved
 loop-d-preserved c =
     let d : ℕ = c.loop-d.d in
     let below : d < 32 = c.loop-d-test.true in
-    let block : List ℕ = part (source c) 32 (list c) in (
+    let block : List ℕ = part (source (goal.at.loop-d-preserved c).After-entries-1) 32 (list (goal.at.loop-d-preserved c).After-entries-1) in (
       search rules,
       ap (λ (x : List ℕ). set x (start (goal.at.loop-d-preserved c).After-entries-1 + d) (get_or x (source (goal.at.loop-d-preserved c).After-entries-1 + d) 0)) c.loop-d.invariant.1
-          ∙ laid_more (list c) (start c) block d _ (omega (arith, long c)) (omega (arith, part_whole c))
-          (part_read (list c) (source c) _ (c.args.to.0 % 16) d block refl (part_whole c) (omega (arith, long c)) below),
+          ∙ laid_more (list (goal.at.loop-d-preserved c).After-entries-1) (start (goal.at.loop-d-preserved c).After-entries-1) block d _ (omega (arith, long (goal.at.loop-d-preserved c).After-entries-1)) (omega (arith, part_whole (goal.at.loop-d-preserved c).After-entries-1))
+          (part_read (list (goal.at.loop-d-preserved c).After-entries-1) (source (goal.at.loop-d-preserved c).After-entries-1) _ (c.args.to.0 % 16) d block refl (part_whole (goal.at.loop-d-preserved c).After-entries-1) (omega (arith, long (goal.at.loop-d-preserved c).After-entries-1)) below),
     )
 
 pub returns : goal.returns
 returns c =
     let done : c.loop-d.d ≡ 32 = omega arith in
-    c.loop-d.invariant.1 ∙ ap (laid (list c) (start c) (part (source c) 32 (list c))) done
-    ∙ laid_all (list c) (start c) (part (source c) 32 (list c)) _ refl (part_whole c)
-    ∙ ap (put_block (list c) _) (part_is (list c) (source c) _ refl)
+    c.loop-d.invariant.1 ∙ ap (laid (list (goal.at.returns c).After-entries-1) (start (goal.at.returns c).After-entries-1) (part (source (goal.at.returns c).After-entries-1) 32 (list (goal.at.returns c).After-entries-1))) done
+    ∙ laid_all (list (goal.at.returns c).After-entries-1) (start (goal.at.returns c).After-entries-1) (part (source (goal.at.returns c).After-entries-1) 32 (list (goal.at.returns c).After-entries-1)) _ refl (part_whole (goal.at.returns c).After-entries-1)
+    ∙ ap (put_block (list (goal.at.returns c).After-entries-1) _) (part_is (list (goal.at.returns c).After-entries-1) (source (goal.at.returns c).After-entries-1) _ refl)
 
 pub loop-d-init : goal.loop-d-init
 loop-d-init c = (search rules, laid_none _ _ _)
 
 pub bounds-entries-source : goal.bounds-entries-source
-bounds-entries-source c = omega (arith, kept c)
+bounds-entries-source c = omega (arith, kept (goal.at.bounds-entries-source c).In-loop-d)
 
 pub bounds-entries-at : goal.bounds-entries-at
-bounds-entries-at c = omega (arith, kept c)
+bounds-entries-at c = omega (arith, kept (goal.at.bounds-entries-at c).In-loop-d)

@@ -24,7 +24,7 @@ some : (c : Else-not-member) → (has c.args.x.maps c.args.c && has c.args.x.way
 some c = two_way c true (not-false c.member.result c.if-not-member.false)
 
 pub returns-then-n-eq0 : goal.returns-then-n-eq0
-returns-then-n-eq0 c = sym (both_some _ _ (some c) ∙ least_zero _ (sym c.byte-n.ensures ∙ c.if-n-eq0.true))
+returns-then-n-eq0 c = sym (both_some _ _ (some (goal.at.returns-then-n-eq0 c).Else-not-member) ∙ least_zero _ (sym c.byte-n.ensures ∙ c.if-n-eq0.true))
 
 pub returns : goal.returns
-returns c = c.byte-n.ensures ∙ sym (both_some _ _ (some c) ∙ least_more _ (λ z. c.if-n-eq0.false (c.byte-n.ensures ∙ z)))
+returns c = c.byte-n.ensures ∙ sym (both_some _ _ (some (goal.at.returns c).Else-not-member) ∙ least_more _ (λ z. c.if-n-eq0.false (c.byte-n.ensures ∙ z)))

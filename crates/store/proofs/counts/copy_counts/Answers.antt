@@ -45,15 +45,15 @@ loop-i-preserved c =
     let pre = c.requires in (
       omega arith,
       ap (λ (x : List ℕ). set x (at (goal.at.loop-i-preserved c).At-loop-i + i) (get_or x (source (goal.at.loop-i-preserved c).At-loop-i + i) 0)) c.loop-i.invariant.1
-          ∙ laid_more (list c) (at c) (part (source c) 8 (list c)) i _ (omega (arith, pre.0, pre.2)) (omega (arith, eight c))
-          (paste_read (list c) (source c) (at c) 8 i (omega (arith, pre.0, pre.1)) (omega (arith, pre.0, pre.2)) below (apart (source c) (at c) i below pre.3)),
+          ∙ laid_more (list (goal.at.loop-i-preserved c).At-loop-i) (at (goal.at.loop-i-preserved c).At-loop-i) (part (source (goal.at.loop-i-preserved c).At-loop-i) 8 (list (goal.at.loop-i-preserved c).At-loop-i)) i _ (omega (arith, pre.0, pre.2)) (omega (arith, eight (goal.at.loop-i-preserved c).At-loop-i))
+          (paste_read (list (goal.at.loop-i-preserved c).At-loop-i) (source (goal.at.loop-i-preserved c).At-loop-i) (at (goal.at.loop-i-preserved c).At-loop-i) 8 i (omega (arith, pre.0, pre.1)) (omega (arith, pre.0, pre.2)) below (apart (source (goal.at.loop-i-preserved c).At-loop-i) (at (goal.at.loop-i-preserved c).At-loop-i) i below pre.3)),
     )
 
 pub returns : goal.returns
 unfolding laid
 returns c =
     let done : c.loop-i.i ≡ 8 = omega (arith, c.loop-i.invariant.0, c.loop-i-test.false) in
-    c.loop-i.invariant.1 ∙ ap (laid (list c) (at c) (part (source c) 8 (list c))) done
+    c.loop-i.invariant.1 ∙ ap (laid (list (goal.at.returns c).At-loop-i) (at (goal.at.returns c).At-loop-i) (part (source (goal.at.returns c).At-loop-i) 8 (list (goal.at.returns c).At-loop-i))) done
 
 pub loop-i-init : goal.loop-i-init
 loop-i-init c = (omega arith, laid_none _ _ _)

@@ -30,16 +30,16 @@ apart k p q = go (ℕ_discrete p q) (dec_lt p q)
 
 pub copy_counts-requires : goal.copy_counts-requires
 copy_counts-requires c =
-    (size_sets c.args.words.now [] [] (long c) _ _ c.requires.0 c.requires.1, omega (arith, c.requires.0), omega (arith, c.requires.1), apart 97 c.args.from.0 c.args.to.0)
+    (size_sets c.args.words.now [] [] (long (goal.at.copy_counts-requires c).After-cells-1) _ _ c.requires.0 c.requires.1, omega (arith, c.requires.0), omega (arith, c.requires.1), apart 97 c.args.from.0 c.args.to.0)
 
 pub copy_counts-requires-then-maps-ne0 : goal.copy_counts-requires-then-maps-ne0
 copy_counts-requires-then-maps-ne0 c =
-    (rw c.copy_counts.ensures (size_first c.args.words.now [] [] (long c) _ _ c.requires.0 c.requires.1), omega (arith, c.requires.0), omega (arith, c.requires.1), apart 225 c.args.from.0 c.args.to.0)
+    (rw c.copy_counts.ensures (size_first c.args.words.now [] [] (long (goal.at.copy_counts-requires-then-maps-ne0 c).After-cells-1) _ _ c.requires.0 c.requires.1), omega (arith, c.requires.0), omega (arith, c.requires.1), apart 225 c.args.from.0 c.args.to.0)
 
 pub returns-then-maps-ne0 : goal.returns-then-maps-ne0
 returns-then-maps-ne0 c d n =
-    rw (c.copy_counts-then-maps-ne0.ensures, c.copy_counts.ensures) (copied_all c.args.words.now d n (long c) _ _ c.requires.0 c.requires.1)
+    rw (c.copy_counts-then-maps-ne0.ensures, c.copy_counts.ensures) (copied_all c.args.words.now d n (long (goal.at.returns-then-maps-ne0 c).After-cells-1) _ _ c.requires.0 c.requires.1)
 
 pub returns-else-maps-ne0 : goal.returns-else-maps-ne0
 returns-else-maps-ne0 c d n =
-    copied_none c.args.words.now d n (long c) _ _ c.requires.0 c.requires.1 c.if-maps-ne0.false
+    copied_none c.args.words.now d n (long (goal.at.returns-else-maps-ne0 c).After-cells-1) _ _ c.requires.0 c.requires.1 c.if-maps-ne0.false

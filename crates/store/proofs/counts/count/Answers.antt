@@ -38,17 +38,17 @@ module _ (c : Else-not-p-c) where
 pub returns-then-x-eq-TO_READ : goal.returns-then-x-eq-TO_READ
 returns-then-x-eq-TO_READ c d n =
     let a = c.args in
-    rw (sort_read _ c.if-x-eq-TO_READ.true, read_count a.words.now d n (search rules) _ (process c) _ (container c))
+    rw (sort_read _ c.if-x-eq-TO_READ.true, read_count a.words.now d n (search rules) _ (process (goal.at.returns-then-x-eq-TO_READ c).Else-not-p-c) _ (container (goal.at.returns-then-x-eq-TO_READ c).Else-not-p-c))
     (c.read_count.ensures ∙ ap (λ (z : Cells). read_in z a.c.0) c.cells_of-cells.ensures)
 
 pub returns : goal.returns
 returns c d n =
     let a = c.args in
-    rw (sort_both _ c.if-x-eq-TO_READ.false, both_count_lem a.words.now d n (search rules) _ (process c) _ (container c))
+    rw (sort_both _ c.if-x-eq-TO_READ.false, both_count_lem a.words.now d n (search rules) _ (process (goal.at.returns c).Else-not-p-c) _ (container (goal.at.returns c).Else-not-p-c))
     (c.both_count.ensures ∙ ap (λ (z : Cells). both_in z a.c.0) c.cells_of-cells.ensures)
 
 pub cells_of-cells-requires : goal.cells_of-cells-requires
-cells_of-cells-requires c = (search rules, process (goal.at.cells_of-cells-requires c).Else-not-p-c, container c)
+cells_of-cells-requires c = (search rules, process (goal.at.cells_of-cells-requires c).Else-not-p-c, container (goal.at.cells_of-cells-requires c).Else-not-p-c)
 
 pub read_count-requires : goal.read_count-requires
 read_count-requires c = container (goal.at.read_count-requires c).Else-not-p-c

@@ -33,14 +33,14 @@ pub returns-then-n-member : goal.returns-then-n-member
 returns-then-n-member c =
     let t : least (goal.at.returns-then-n-member c).After-member-2 ≡ true = c.if-n-member.true in
     let z = eqb-true c.byte-n.result 0 (and_l _ _ t) in
-    sym (read_alone _ _ (held c) (two_way (goal.at.returns-then-n-member c).After-member-2 false (not-true c.member-2.result (and_r (eqb c.byte-n.result 0) _ t))) ∙ least_zero _ (sym c.byte-n.ensures ∙ z))
+    sym (read_alone _ _ (held (goal.at.returns-then-n-member c).After-member-2) (two_way (goal.at.returns-then-n-member c).After-member-2 false (not-true c.member-2.result (and_r (eqb c.byte-n.result 0) _ t))) ∙ least_zero _ (sym c.byte-n.ensures ∙ z))
 
 pub returns : goal.returns
 returns c =
     let t : least (goal.at.returns c).After-member-2 ≡ false = c.if-n-member.false in
     let b = c.byte-n.ensures in
-    by c.member-2.result (λ e. b ∙ sym (read_both _ _ (held c) (two_way (goal.at.returns c).After-member-2 true e)))
+    by c.member-2.result (λ e. b ∙ sym (read_both _ _ (held (goal.at.returns c).After-member-2) (two_way (goal.at.returns c).After-member-2 true e)))
     (λ e. b
     ∙ sym
-    (read_alone _ _ (held c) (two_way (goal.at.returns c).After-member-2 false e)
+    (read_alone _ _ (held (goal.at.returns c).After-member-2) (two_way (goal.at.returns c).After-member-2 false e)
     ∙ least_more _ (λ z. no_both (and_i (eqb c.byte-n.result 0) (not c.member-2.result) (eq-eqb c.byte-n.result 0 (b ∙ z)) (ap not e)) t)))

@@ -28,7 +28,7 @@ loop-left-preserved c =
     let more = c.loop-left-test.true in
     let is = c.lowest-v.ensures in (
       working_more _ i.0 more _ is _ _ c.give_at.ensures.0 c.rest-left.ensures,
-      lacking_given i.1 i.0.small more _ is _ c.give_at.ensures.0 _ c.give_at.ensures.1 _ (kept c) _ c.rest-left.ensures,
+      lacking_given i.1 i.0.small more _ is _ c.give_at.ensures.0 _ c.give_at.ensures.1 _ (kept (goal.at.loop-left-preserved c).Joined-not-give_at) _ c.rest-left.ensures,
     )
 
 pub loop-left-init : goal.loop-left-init

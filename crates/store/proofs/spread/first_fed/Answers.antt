@@ -41,7 +41,7 @@ offset_bounds-rows-p c = omega (arith, below c)
 
 pub bounds-rows-p : goal.bounds-rows-p
 unfolding ◌∩◌
-bounds-rows-p c = omega (arith, below c)
+bounds-rows-p c = omega (arith, below (goal.at.bounds-rows-p c).After-lowest-p)
 
 pub returns-then-x-rows-ne0 : goal.returns-then-x-rows-ne0
 unfolding ◌∩◌

@@ -31,7 +31,7 @@ module _ (c : At-loop-u) where
   outs = outs_of list fits
 
 -- the process that comes next
-came : (c : Else-p-eq-NONE) → ((has c.loop-u.false c.next-p.result ≡ true) × (comes_next (part 65 16 (list c)) c.loop-u.seen c.next-p.result ≡ true))
+came : (c : Else-p-eq-NONE) → ((has c.loop-u.left c.next-p.result ≡ true) × (comes_next (part 65 16 (list c)) c.loop-u.seen c.next-p.result ≡ true))
 came c = c.next-p.ensures.found c.if-p-eq-NONE.false
 
 below : (c : Else-p-eq-NONE) → c.next-p.result < 16
@@ -39,7 +39,7 @@ below c = next_lt (links_of (list c)) (part 65 16 (list c)) _ (ins c) (outs c) c
 
 pub loop-u-smaller : goal.loop-u-smaller
 loop-u-smaller c =
-    more_less (links_of (list c)) (part 65 16 (list c)) _ (ins c) (outs c) c.loop-u.invariant _ (came c) _ c.without-left.ensures
+    more_less (links_of (list (goal.at.loop-u-smaller c).At-loop-u)) (part 65 16 (list (goal.at.loop-u-smaller c).At-loop-u)) _ (ins (goal.at.loop-u-smaller c).At-loop-u) (outs (goal.at.loop-u-smaller c).At-loop-u) c.loop-u.invariant _ (came (goal.at.loop-u-smaller c).Else-p-eq-NONE) _ c.without-left.ensures
 
 -- the process of a container
 own : (p : ℕ) → 8 + p - 8 ≡ p
@@ -48,9 +48,9 @@ own p = omega arith
 pub loop-u-preserved : goal.loop-u-preserved
 unfolding ◌∪◌ fed_rows
 loop-u-preserved c =
-    search_more (links_of (list c)) (part 65 16 (list c)) _ (ins c) (outs c) c.loop-u.invariant _ (came c)
-    (subst (λ (z : ℕ). z < 2 ^ 64) (outs (goal.at.loop-u-preserved c).At-loop-u _ (below c)) (outs_bound (list c) (fits c) _)) _ _
-    (rw (c.with-seen-in-loop-u.ensures, c.fed_by.ensures, own c.next-p.result, ← table_at 16 (λ p. maps_in (list c) p ∩ ways_in (list c) p) _ 0 (below c))) c.without-left.ensures
+    search_more (links_of (list (goal.at.loop-u-preserved c).At-loop-u)) (part 65 16 (list (goal.at.loop-u-preserved c).At-loop-u)) _ (ins (goal.at.loop-u-preserved c).At-loop-u) (outs (goal.at.loop-u-preserved c).At-loop-u) c.loop-u.invariant _ (came (goal.at.loop-u-preserved c).Else-p-eq-NONE)
+    (subst (λ (z : ℕ). z < 2 ^ 64) (outs (goal.at.loop-u-preserved c).At-loop-u _ (below (goal.at.loop-u-preserved c).Else-p-eq-NONE)) (outs_bound (list (goal.at.loop-u-preserved c).At-loop-u) (fits (goal.at.loop-u-preserved c).At-loop-u) _)) _ _
+    (rw (c.with-seen-in-loop-u.ensures, c.fed_by.ensures, own c.next-p.result, ← table_at 16 (λ p. maps_in (list (goal.at.loop-u-preserved c).At-loop-u) p ∩ ways_in (list (goal.at.loop-u-preserved c).At-loop-u) p) _ 0 (below (goal.at.loop-u-preserved c).Else-p-eq-NONE))) c.without-left.ensures
 
 pub next-p-requires : goal.next-p-requires
 unfolding part
@@ -63,7 +63,7 @@ loop-u-init c = rw c.with-seen.ensures (search_start _ _ _ c.requires.1)
 
 pub returns-then-p-eq-NONE : goal.returns-then-p-eq-NONE
 unfolding part
-returns-then-p-eq-NONE c = λ d n. search_over (links_of (list c)) (part 65 16 (list c)) _ (ins c) (outs c) c.loop-u.invariant c.requires.1 (outs_bound (list c) (fits c)) _ c.if-p-eq-NONE.true c.next-p.ensures ∙ reach_view _ d n _
+returns-then-p-eq-NONE c = λ d n. search_over (links_of (list (goal.at.returns-then-p-eq-NONE c).At-loop-u)) (part 65 16 (list (goal.at.returns-then-p-eq-NONE c).At-loop-u)) _ (ins (goal.at.returns-then-p-eq-NONE c).At-loop-u) (outs (goal.at.returns-then-p-eq-NONE c).At-loop-u) c.loop-u.invariant c.requires.1 (outs_bound (list (goal.at.returns-then-p-eq-NONE c).At-loop-u) (fits (goal.at.returns-then-p-eq-NONE c).At-loop-u)) _ c.if-p-eq-NONE.true c.next-p.ensures ∙ reach_view _ d n _
 
 pub overflow_add-v : goal.overflow_add-v
 unfolding part

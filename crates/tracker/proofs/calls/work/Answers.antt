@@ -32,8 +32,8 @@ returns-then-gives c =
     let m = view w a.descriptors.now a.names.now in
     let k = part_length 1 64 w (omega arith) in
     worked_out _ _ _ _ h
-    (c.give-gained.ensures.made ∙ finished_call m k (sized_view w _ _) (named c) a.q h)
-    (c.give-gained.ensures.told ∙ gained_call m k (sized_view w _ _) (named c) a.q h)
+    (c.give-gained.ensures.made ∙ finished_call m k (sized_view w _ _) (named (goal.at.returns-then-gives c).After-lengths) a.q h)
+    (c.give-gained.ensures.told ∙ gained_call m k (sized_view w _ _) (named (goal.at.returns-then-gives c).After-lengths) a.q h)
 
 pub returns : goal.returns
 unfolding view
@@ -46,8 +46,8 @@ returns c =
     let k = part_length 1 64 w (omega arith) in
     let n = sym c.gives.ensures ∙ c.if-gives.false in
     worked_out _ _ _ _ h
-    (c.finish.ensures ∙ ap (λ (x : Maps). finished x a.q) (quiet_given m k a.q n) ∙ finished_call m k (sized_view w _ _) (named c) a.q h)
-    (gained_quiet m k (sized_view w _ _) (named c) a.q h n)
+    (c.finish.ensures ∙ ap (λ (x : Maps). finished x a.q) (quiet_given m k a.q n) ∙ finished_call m k (sized_view w _ _) (named (goal.at.returns c).After-lengths) a.q h)
+    (gained_quiet m k (sized_view w _ _) (named (goal.at.returns c).After-lengths) a.q h n)
 
 pub returns-then-n-ne0 : goal.returns-then-n-ne0
 returns-then-n-ne0 c = refused _ _ _ c.refusal-n.ensures c.if-n-ne0.true

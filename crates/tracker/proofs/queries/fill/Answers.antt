@@ -7,10 +7,10 @@ use Rattle.tracker.proofs.queries.fill.Goals as goal
 use Rattle.tracker.proofs.queries.fill.Goals.{After-lowest-c}
 
 turn : (c : After-lowest-c) →
-    Turn c.args.x c.args.out.now c.loop-left.out c.loop-left.false
+    Turn c.args.x c.args.out.now c.loop-left.out c.loop-left.left
     c.loop-left.n c.lowest-c.result
 turn c =
-    partly_more c.args.x c.args.out.now c.loop-left.out c.loop-left.false c.loop-left.n c.loop-left.invariant c.loop-left-test.true c.requires
+    partly_more c.args.x c.args.out.now c.loop-left.out c.loop-left.left c.loop-left.n c.loop-left.invariant c.loop-left-test.true c.requires
     c.lowest-c.result c.lowest-c.ensures
 
 pub loop-left-init : goal.loop-left-init
@@ -38,4 +38,4 @@ pub shape_of-out : goal.shape_of-out
 shape_of-out c = c.loop-left.invariant.long
 
 pub returns : goal.returns
-returns c = let a = c.args in partly_all a.x a.out.now c.loop-left.out c.loop-left.false c.loop-left.n c.loop-left.invariant c.loop-left-test.false
+returns c = let a = c.args in partly_all a.x a.out.now c.loop-left.out c.loop-left.left c.loop-left.n c.loop-left.invariant c.loop-left-test.false

@@ -24,5 +24,5 @@ pub returns-else-held-ne0 : goal.returns-else-held-ne0
 returns-else-held-ne0 c =
     let a = c.args in
     let m = view a.words.now a.descriptors.now a.names.now in
-    none_cleared a.words.now a.descriptors.now a.names.now (long c)
+    none_cleared a.words.now a.descriptors.now a.names.now (long (goal.at.returns-else-held-ne0 c).After-lengths)
     ∙ ap (λ (x : ℕ). with_items m (cleared m.items x)) (sym (ap (gone_of m.tables) c.if-held-ne0.false ∙ gone_none m.tables))

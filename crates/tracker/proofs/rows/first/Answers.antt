@@ -28,15 +28,15 @@ there c = sym c.holds-lacked.ensures ∙ ap refusal_from c.if-lacked-ne0.false
 
 pub returns-then-holds-4 : goal.returns-then-holds-4
 returns-then-holds-4 c =
-    ten_first _ _ _ (fit c) (lives c) (free c) (there c) (sym c.holds-3.ensures ∙ c.if-holds-3.false) (sym c.holds-4.ensures ∙ c.if-holds-4.true)
+    ten_first _ _ _ (fit (goal.at.returns-then-holds-4 c).Else-not-fits) (lives (goal.at.returns-then-holds-4 c).Else-holds) (free (goal.at.returns-then-holds-4 c).Else-holds-2) (there (goal.at.returns-then-holds-4 c).Else-lacked-ne0) (sym c.holds-3.ensures ∙ c.if-holds-3.false) (sym c.holds-4.ensures ∙ c.if-holds-4.true)
 
 pub returns-then-holds-5 : goal.returns-then-holds-5
 returns-then-holds-5 c =
-    seventeen_first _ _ _ (fit c) (lives c) (free c) (there c) (sym c.holds-3.ensures ∙ c.if-holds-3.false) (sym c.holds-4.ensures ∙ c.if-holds-4.false) (sym c.holds-5.ensures ∙ c.if-holds-5.true)
+    seventeen_first _ _ _ (fit (goal.at.returns-then-holds-5 c).Else-not-fits) (lives (goal.at.returns-then-holds-5 c).Else-holds) (free (goal.at.returns-then-holds-5 c).Else-holds-2) (there (goal.at.returns-then-holds-5 c).Else-lacked-ne0) (sym c.holds-3.ensures ∙ c.if-holds-3.false) (sym c.holds-4.ensures ∙ c.if-holds-4.false) (sym c.holds-5.ensures ∙ c.if-holds-5.true)
 
 pub returns : goal.returns
 returns c =
-    none_first _ _ _ (fit c) (lives c) (free c) (there c) (sym c.holds-3.ensures ∙ c.if-holds-3.false) (sym c.holds-4.ensures ∙ c.if-holds-4.false) (sym c.holds-5.ensures ∙ c.if-holds-5.false)
+    none_first _ _ _ (fit (goal.at.returns c).Else-not-fits) (lives (goal.at.returns c).Else-holds) (free (goal.at.returns c).Else-holds-2) (there (goal.at.returns c).Else-lacked-ne0) (sym c.holds-3.ensures ∙ c.if-holds-3.false) (sym c.holds-4.ensures ∙ c.if-holds-4.false) (sym c.holds-5.ensures ∙ c.if-holds-5.false)
 
 pub returns-then-is_known : goal.returns-then-is_known
 returns-then-is_known c = five_first _ _ _ (sym c.is_known.ensures ∙ c.if-is_known.true) (sym c.fits2.ensures ∙ not-true _ c.if-not-fits.true)
@@ -45,13 +45,13 @@ pub returns-then-not-fits : goal.returns-then-not-fits
 returns-then-not-fits c = let a = c.args in four_first _ a.q (kind_of a.kind) (sym c.is_known.ensures ∙ c.if-is_known.false)
 
 pub returns-then-holds : goal.returns-then-holds
-returns-then-holds c = six_first _ _ _ (fit c) (sym c.holds.ensures ∙ c.if-holds.true)
+returns-then-holds c = six_first _ _ _ (fit (goal.at.returns-then-holds c).Else-not-fits) (sym c.holds.ensures ∙ c.if-holds.true)
 
 pub returns-then-holds-2 : goal.returns-then-holds-2
-returns-then-holds-2 c = seven_first _ _ _ (fit c) (lives c) (sym c.holds-2.ensures ∙ c.if-holds-2.true)
+returns-then-holds-2 c = seven_first _ _ _ (fit (goal.at.returns-then-holds-2 c).Else-not-fits) (lives (goal.at.returns-then-holds-2 c).Else-holds) (sym c.holds-2.ensures ∙ c.if-holds-2.true)
 
 pub returns-then-lacked-ne0 : goal.returns-then-lacked-ne0
-returns-then-lacked-ne0 c = missing_first _ _ _ (fit c) (lives c) (free c) _ c.holds-lacked.ensures c.if-lacked-ne0.true
+returns-then-lacked-ne0 c = missing_first _ _ _ (fit (goal.at.returns-then-lacked-ne0 c).Else-not-fits) (lives (goal.at.returns-then-lacked-ne0 c).Else-holds) (free (goal.at.returns-then-lacked-ne0 c).Else-holds-2) _ c.holds-lacked.ensures c.if-lacked-ne0.true
 
 pub returns-then-holds-3 : goal.returns-then-holds-3
-returns-then-holds-3 c = nine_first _ _ _ (fit c) (lives c) (free c) (there c) (sym c.holds-3.ensures ∙ c.if-holds-3.true)
+returns-then-holds-3 c = nine_first _ _ _ (fit (goal.at.returns-then-holds-3 c).Else-not-fits) (lives (goal.at.returns-then-holds-3 c).Else-holds) (free (goal.at.returns-then-holds-3 c).Else-holds-2) (there (goal.at.returns-then-holds-3 c).Else-lacked-ne0) (sym c.holds-3.ensures ∙ c.if-holds-3.true)

@@ -28,4 +28,4 @@ raise-requires c =
 pub returns : goal.returns
 unfolding view tables_at tables_by kinds descriptor sort_of
 returns c =
-    c.raise.ensures c.args.descriptors.now c.args.names.now ∙ rw c.descriptor-to.ensures (kind_arm (row c) (12 ∷ []) _ refl _ c.requires.1)
+    c.raise.ensures c.args.descriptors.now c.args.names.now ∙ rw c.descriptor-to.ensures (kind_arm (row (goal.at.returns c).Start) (12 ∷ []) _ refl _ c.requires.1)
