@@ -29,12 +29,13 @@ module _ (c : After-entries-1) where
   part_whole : length (part source 32 list) ≡ 32
   part_whole = part_length source 32 list (omega (arith, long))
 
-  same : (d : ℕ) → d ≤ 32 → length (laid list start (part source 32 list) d) ≡ 512
-  same d h = laid_long list start (part source 32 list) d (omega (arith, long)) (omega (arith, part_whole)) ∙ long
-
 -- the entries keep their length
 kept : (c : In-loop-d) → length c.loop-d.entries ≡ 512
-kept c = ap length c.loop-d.invariant.1 ∙ same c c.loop-d.d (omega arith)
+kept c =
+    let l : List ℕ = c.args.descriptors.now in
+    let e : length l ≡ 512 = search rules in
+    let p : length (part (32 * (c.args.from.0 % 16)) 32 l) ≡ 32 = part_length (32 * (c.args.from.0 % 16)) 32 l (omega (arith, e)) in
+    ap length c.loop-d.invariant.1 ∙ laid_long l (32 * (c.args.to.0 % 16)) _ c.loop-d.d (omega (arith, e)) (omega (arith, p)) ∙ e
 
 pub loop-d-preserved : goal.loop-d-preserved
 loop-d-preserved c =

@@ -7,4 +7,4 @@ use Rattle.store.proofs.cells.make_part.Goals as goal
 pub returns : goal.returns
 unfolding part
 returns c =
-    record { c = λ d n. items_made _ _ d n c.requires _ c.make.ensures.0; told = c.make.ensures.1 }
+    record { made = λ d n. items_made _ _ d n c.requires _ c.make.ensures.0; told = c.make.ensures.1 }

@@ -16,6 +16,6 @@ returns c =
     let w = c.args.words.now in
     let e = replaced (part 1 64 w) (c.args.c % 64) c.args.x (part_length 1 64 w (omega (arith, c.requires))) (omega arith) in
     record {
-      c = λ d n. items_made _ _ d n c.requires _ (c.replace_at.ensures.0 ∙ e);
+      made = λ d n. items_made _ _ d n c.requires _ (c.replace_at.ensures.0 ∙ e);
       told = c.replace_at.ensures.1 ∙ ap (gained (part 1 64 w)) e;
     }

@@ -18,10 +18,13 @@ two_way c b e =
     sym (inter_has x.maps x.ways c.args.c) ∙ ap (has (x.maps ∩ x.ways)) (sym (mod-eq_of_lt c.requires)) ∙ sym c.member.ensures ∙ e
 
 pub returns-then-not-member : goal.returns-then-not-member
-returns-then-not-member c = sym (both_none _ _ (two_way (goal.at.returns-then-not-member c).After-member false (not-true c.member.result c.if-not-member.true)))
+returns-then-not-member c = sym (both_none _ _ (two_way (goal.at.returns-then-not-member c).After-member false c.if-not-member.true))
 
 some : (c : Else-not-member) → (has c.args.x.maps c.args.c && has c.args.x.ways c.args.c) ≡ true
-some c = two_way c true (not-false c.member.result c.if-not-member.false)
+unfolding ◌∩◌
+some c =
+    let x = c.args.x in
+    sym (inter_has x.maps x.ways c.args.c) ∙ ap (has (x.maps ∩ x.ways)) (sym (mod-eq_of_lt c.requires)) ∙ sym c.member.ensures ∙ c.if-not-member.false
 
 pub returns-then-n-eq0 : goal.returns-then-n-eq0
 returns-then-n-eq0 c = sym (both_some _ _ (some (goal.at.returns-then-n-eq0 c).Else-not-member) ∙ least_zero _ (sym c.byte-n.ensures ∙ c.if-n-eq0.true))

@@ -17,7 +17,7 @@ use Rattle.store.proofs.counts.count.Goals.{Else-not-p-c}
 pub returns-then-not-p-c : goal.returns-then-not-p-c
 returns-then-not-p-c c d n =
     let a = c.args in
-    sym (none_past (sort_of a.x.0) a.words.now d n a.p.0 a.c.0 (not-true (ltb a.p.0 16 && ltb a.c.0 64) c.if-not-p-c.true))
+    sym (none_past (sort_of a.x.0) a.words.now d n a.p.0 a.c.0 c.if-not-p-c.true)
 
 module _ (c : Else-not-p-c) where
   abbrev p : ℕ
@@ -27,7 +27,7 @@ module _ (c : Else-not-p-c) where
   v = c.args.c.0
 
   in_range_lem : (ltb p 16 && ltb v 64) ≡ true
-  in_range_lem = not-false (ltb p 16 && ltb v 64) c.if-not-p-c.false
+  in_range_lem = c.if-not-p-c.false
 
   process : p < 16
   process = ltb-true p 16 (and_l (ltb p 16) (ltb v 64) in_range_lem)

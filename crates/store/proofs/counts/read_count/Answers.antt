@@ -17,7 +17,7 @@ mapped c b e = ap (has c.args.x.maps) (sym (mod-eq_of_lt c.requires)) ∙ sym c.
 
 module _ (c : After-member-2) where
   held : has c.args.x.maps c.args.c ≡ true
-  held = mapped c true (not-false c.member.result c.if-not-member.false)
+  held = ap (has c.args.x.maps) (sym (mod-eq_of_lt c.requires)) ∙ sym c.member.ensures ∙ c.if-not-member.false
 
   two_way : (b : Bool) → c.member-2.result ≡ b → has c.args.x.ways c.args.c ≡ b
   two_way b e = ap (has c.args.x.ways) (sym (mod-eq_of_lt c.requires)) ∙ sym c.member-2.ensures ∙ e
@@ -27,7 +27,7 @@ module _ (c : After-member-2) where
   least = eqb c.byte-n.result 0 && not c.member-2.result
 
 pub returns-then-not-member : goal.returns-then-not-member
-returns-then-not-member c = sym (read_none _ _ (mapped (goal.at.returns-then-not-member c).After-member false (not-true c.member.result c.if-not-member.true)))
+returns-then-not-member c = sym (read_none _ _ (mapped (goal.at.returns-then-not-member c).After-member false c.if-not-member.true))
 
 pub returns-then-n-member : goal.returns-then-n-member
 returns-then-n-member c =

@@ -1,6 +1,7 @@
 -- `give` adds the items to every container of the set, and tells which lacked one.
 use Prim.Native.Nat.{◌%◌}
-use mathlib.Core.Path.{◌≡◌, ◌∙◌}
+use mathlib.Core.Path.{◌≡◌, ap, ◌∙◌}
+use mathlib.Core.Bool.{not}
 use mathlib.Core.Logic.{⊎_elim}
 use native.Mathlib.Omega.{arith}
 use Rattle.sets.specs.Sets.{count, ◌∪◌}
@@ -8,7 +9,7 @@ use Rattle.store.proofs.Worklist.{turn_below, turn_less, Working, working_start,
 use Rattle.store.proofs.Gains.{keep_if, Lacking, lacking_start, keep_drops, keep_stays, lacking_given, lacking_end, given_nothing, nothing_gained}
 use borrow.Author.Rules.{rules}
 use Rattle.store.proofs.gifts.give.Goals as goal
-use Rattle.store.proofs.gifts.give.Goals.{Joined-not-give_at}
+use Rattle.store.proofs.gifts.give.Goals.{Joined-not-give_at, then-not-give_at, else-not-give_at}
 
 -- nothing is given
 pub returns-then-x-eq0 : goal.returns-then-x-eq0
@@ -16,7 +17,7 @@ returns-then-x-eq0 c = let e = c.requires in (rw c.if-x-eq0.true (given_nothing 
 
 -- the container stays among those that lacked an item, if it did
 kept : (c : Joined-not-give_at) → (c.if-not-give_at.lacked ≡ keep_if c.give_at.result c.loop-left.lacked (c.lowest-v.result % 64))
-kept c = ⊎_elim (λ w. w.2 ∙ w.1.ensures ∙ keep_drops _ _ _ w.0.taken) (λ w. w.1 ∙ keep_stays _ _ _ w.0.left) c.if-not-give_at.branch
+kept c = elim c.if-not-give_at.branch [ then-not-give_at w ↦ w.lacked-is ∙ w.without-lacked.ensures ∙ keep_drops _ _ _ (ap not w.if-not-give_at.true) | else-not-give_at w ↦ w.lacked-is ∙ keep_stays _ _ _ (ap not w.if-not-give_at.false) ]
 
 pub loop-left-smaller : goal.loop-left-smaller
 loop-left-smaller c =

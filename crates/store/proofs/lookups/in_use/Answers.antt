@@ -20,7 +20,7 @@ returns c =
     ap (λ (a : Bool). a && ltb q.c.0 64) c.member.ensures
     ∙ member_of c.mapped.result q.c.0 (search rules)
     ∙ rw c.mapped.ensures
-    (mapped_is q.words.now q.descriptors.now q.names.now (search rules) q.c.0 (let c : c.mapped.result < 2 ^ 64 = search rules in rw c.mapped.ensures at c)
+    (mapped_is q.words.now q.descriptors.now q.names.now (search rules) q.c.0 (let e : c.mapped.result < 2 ^ 64 = search rules in rw c.mapped.ensures at e)
     ∙ sym (used_held t _ c.if-c-lt-FIRST_FILE.false ∙ rw (← c.stands.ensures, c.if-stands.false, ← c.stands-2.ensures, c.if-stands-2.false)))
 
 pub returns-then-c-lt-DEVICES : goal.returns-then-c-lt-DEVICES

@@ -13,7 +13,7 @@ pub returns-then-not-member : goal.returns-then-not-member
 returns-then-not-member c d n =
     let v : ℕ = c.args.c.0 in
     let fits : c.ways_set.result < 2 ^ 64 = search rules in
-    let e : has c.ways_set.result (v % 64) ≡ false = sym c.member.ensures ∙ not-true c.member.result c.if-not-member.true in
+    let e : has c.ways_set.result (v % 64) ≡ false = sym c.member.ensures ∙ c.if-not-member.true in
     let f : has c.ways_set.result v ≡ false = sym (member_of c.ways_set.result v fits) ∙ ap (λ (b : Bool). b && ltb v 64) e in
     sym (unfed _ d n (search rules) v (ap (λ (z : ℕ). has z v) (sym c.ways_set.ensures) ∙ f))
 

@@ -31,11 +31,14 @@ module _ (c : At-loop-u) where
   outs = outs_of list fits
 
 -- the process that comes next
-came : (c : Else-p-eq-NONE) → ((has c.loop-u.left c.next-p.result ≡ true) × (comes_next (part 65 16 (list c)) c.loop-u.seen c.next-p.result ≡ true))
+came : (c : Else-p-eq-NONE) → ((has c.loop-u.left c.next-p.result ≡ true) × (comes_next (part 65 16 c.args.words.now) c.loop-u.seen c.next-p.result ≡ true))
 came c = c.next-p.ensures.found c.if-p-eq-NONE.false
 
 below : (c : Else-p-eq-NONE) → c.next-p.result < 16
-below c = next_lt (links_of (list c)) (part 65 16 (list c)) _ (ins c) (outs c) c.loop-u.invariant _ (came c)
+below c =
+    let l = c.args.words.now in
+    let f : (i : ℕ) → get_or l i 0 < 2 ^ 64 = (λ i. (c.shared_slice_known-1.given i).fits) in
+    next_lt (links_of l) (part 65 16 l) _ (ins_of l f) (outs_of l f) c.loop-u.invariant _ (came c)
 
 pub loop-u-smaller : goal.loop-u-smaller
 loop-u-smaller c =
@@ -67,8 +70,8 @@ returns-then-p-eq-NONE c = λ d n. search_over (links_of (list (goal.at.returns-
 
 pub overflow_add-v : goal.overflow_add-v
 unfolding part
-overflow_add-v c = omega (arith, below c)
+overflow_add-v c = omega (arith, below (goal.at.overflow_add-v c).Else-p-eq-NONE)
 
 pub fed_by-requires : goal.fed_by-requires
 unfolding part
-fed_by-requires c = (c.requires.0, omega arith, omega (arith, below c))
+fed_by-requires c = (c.requires.0, omega arith, omega (arith, below (goal.at.fed_by-requires c).Else-p-eq-NONE))
