@@ -28,7 +28,7 @@ returns-then-tag-eq-SEPARATE_TAG c = λ l m n.
 
 pub returns-then-not-touches : goal.returns-then-not-touches
 unfolding ◌∪◌
-returns-then-not-touches c = λ l m n. sym (far _ l _ _ _ (gained_lt (goal.at.returns-then-not-touches c).Start) (sym c.touches.ensures ∙ not-true _ c.if-not-touches.true))
+returns-then-not-touches c = λ l m n. sym (far _ l _ _ _ (gained_lt (goal.at.returns-then-not-touches c).Start) (sym c.touches.ensures ∙ c.if-not-touches.true))
 
 pub returns : goal.returns
 unfolding ◌∪◌

@@ -15,7 +15,7 @@ use Rattle.rules.proofs.Searching.{Seek, seek_hit, seek_miss, seek_end}
 use Rattle.rules.proofs.StoredLaws.{count_le}
 use Rattle.rules.proofs.AnewLaws.{far, nothing_given, judges}
 use Rattle.rules.proofs.judging.judge.Goals as goal
-use Rattle.rules.proofs.judging.judge.Goals.{Start}
+use Rattle.rules.proofs.judging.judge.Goals.{Start, else-touches, then-touches+else-tag-eq-SEPARATE_TAG+else-breaks_set}
 
 answer : (c : Start) (r : ℕ)
     → r ≡ anew_from (items_in c.args.words.now) c.args.plan c.args.sets.now c.args.fields.now 0
@@ -44,10 +44,7 @@ returns-then-breaks_set c =
 pub loop-k-preserved : goal.loop-k-preserved
 unfolding condition_at ◌∪◌
 loop-k-preserved c =
-    let whole =
-    ⊎_elim (λ w. sym (w.3.ensures _ w.1.left) ∙ w.4.left)
-    (λ w. far _ _ _ _ _ (gained_lt (goal.at.loop-k-preserved c).Start) (sym c.touches.ensures ∙ w.left)) c.if-touches.branch in
-    (c.loop-k.invariant.0, c.loop-k.invariant.1, seek_miss _ _ _ _ c.loop-k.invariant.2 (omega arith) whole)
+    (c.loop-k.invariant.0, c.loop-k.invariant.1, seek_miss _ _ _ _ c.loop-k.invariant.2 (omega arith) (elim c.if-touches.branch [ then-touches+else-tag-eq-SEPARATE_TAG+else-breaks_set w ↦ sym (w.breaks_set.ensures _ w.if-tag-eq-SEPARATE_TAG.false) ∙ w.if-breaks_set.false | else-touches w ↦ far _ _ _ _ _ (gained_lt (goal.at.loop-k-preserved c).Start) (sym c.touches.ensures ∙ w.if-touches.false) ]))
 
 pub returns-then-given-eq0 : goal.returns-then-given-eq0
 unfolding ◌∪◌
