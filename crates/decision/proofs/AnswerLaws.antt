@@ -76,7 +76,7 @@ module _ (m : Monitor) (q : Call) (e : first_that (call_tests (view m).tables (s
       → g ≡ gained_from (view m) (after (view m) (change (view m).tables q)) → Answers m (a_call (some q)) (record { answer = Allow g; monitor = t })
   unfolding word_of gained_in gained_by answer_of state_after verdict verdict_at verdict_by Sound
   allowed_as t g v f i =
-      let o : Sound m → outcome_of (view m) (a_call (some q)) ≡ allows (change (view m).tables q) g = λ h. outcome_call (view m) q e ∙ ap (verdict_by (view m) q _) (f h) ∙ ap (allows (change (view m).tables q)) (sym i) in
+      let o : Sound m → outcome_of (view m) (a_call (some q)) ≡ allows (change (view m).tables q) g = λ h. outcome_call (view m) q e ∙ ap (verdict_by (view m) q (after (view m) (change (view m).tables q))) (f h) ∙ ap (allows (change (view m).tables q)) (sym i) in
       record {
         refusal = λ k. (λ d. cc, λ d. absurd (untested k d));
         refused_kept = λ k d. cc;

@@ -72,13 +72,13 @@ unfolding answer_all codes_of CodesTell
 all_told s [] h = refl
 all_told s (r ∷ rs) h =
     ap₂ (λ (w : Word) (ws : List Word). w ∷ ws) (rw (word_is (outcome s r)) at (codes_tell (answer_is (outcome s r)) (outcome_bytes s h r)))
-    (all_told _ rs (next_ruled s r h))
+    (all_told (state_after s (outcome s r)) rs (next_ruled s r h))
 
 pub codes_below : (s : State) (rs : List (List ℕ)) → Ruled Any s.rules → Below (2 ^ 32) (codes_of (answer_all s rs).answers)
 unfolding answer_all codes_of
 codes_below s [] h k = pow_pos 32
 codes_below s (r ∷ rs) h zero = rw (word_is (outcome s r)) at (code_lt (answer_is (outcome s r)) (outcome_bytes s h r))
-codes_below s (r ∷ rs) h (suc k) = codes_below _ rs (next_ruled s r h) k
+codes_below s (r ∷ rs) h (suc k) = codes_below (state_after s (outcome s r)) rs (next_ruled s r h) k
 
 pub log_codes_tell : LogCodesTell
 unfolding LogCodesTell run_log

@@ -89,7 +89,7 @@ found_lt {items} {plan} {sets} {fields} {k} j e =
 -- ---- verdicts
 pub stops : (s : State) (q : Call) (x : Numbered) → lowest_broken (after s (change s.tables q)) ≡ some x → verdict s q ≡ stopped s q x.number x.rule
 unfolding verdict verdict_at verdict_by
-stops s q x h = ap (verdict_by s q _) h
+stops s q x h = ap (verdict_by s q (after s (change s.tables q))) h
 
 -- ---- a call from its bytes
 pub call_fields : (b : Bytes) (q : Call) → call_in b ≡ some q → (kind_number q.kind ≡ b.kind) × (q.process ≡ b.process)

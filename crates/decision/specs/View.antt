@@ -1,7 +1,9 @@
 -- How the monitor stands for the state of document 01: the tracker's maps and the rules.
 use Rattle.std.specs.Prelude.{List, ℕ}
+use Rattle.std.specs.Borrow.{MutBor}
+use denote.Triple.Both.{Both}
 use Rattle.flow.specs.Box.{State}
-use Rattle.store.specs.Maps.{Maps, view as mapsOf, Lent}
+use Rattle.store.specs.Maps.{Maps, view as mapsOf}
 use Rattle.tracker.specs.View.{state}
 use Rattle.rules.specs.Stored.{rules_of}
 use Rattle.decision.specs.declared.Monitor.{Monitor}
@@ -9,6 +11,10 @@ use Rattle.decision.specs.declared.Monitor.{Monitor}
 -- the monitor of these arrays
 abbrev pub monitor : List ℕ → List ℕ → List ℕ → List ℕ → List ℕ → Monitor
 monitor words descriptors names sets fields = record { words = words; descriptors = descriptors; names = names; sets = sets; fields = fields }
+
+-- an array that is lent to be written: what it holds at the call (`x.entry.now`) and at the return (`x.exit.now`)
+abbrev pub Lent : Type 0
+Lent = Both (MutBor (List ℕ)) (MutBor (List ℕ))
 
 -- the monitor of the lent arrays, at the call and at the return
 abbrev pub monitor_before : Lent → Lent → Lent → Lent → Lent → Monitor

@@ -83,7 +83,7 @@ fn stop_in(
     k: u8,
 ) -> Diverted
     requires { (k < rule_count) × Passes words.old descriptors.now names.now q }
-    ensures { (x : Asked) → call_in q ≡ some x → AnswersStopped (monitor_before words descriptors names sets fields) x k (record { answer = stopped_by k result.to result.gained; monitor = monitor_after words descriptors names sets fields }) }
+    ensures { (x : Asked) → call_in q ≡ some x → AnswersStopped (monitor words.old descriptors.now names.now sets.now fields.now) x k (record { answer = stopped_by k result.to result.gained; monitor = monitor words.new descriptors.now names.now sets.now fields.now }) }
 {
     lengths(words, names);
     let diverts = stored::action(fields, k) == DIVERT;
@@ -120,7 +120,7 @@ fn gift_in(
     q: Call,
 ) -> Gift
     requires { Passes words.old descriptors.now names.now q × GivesOnce q }
-    ensures { Gives (monitor_before words descriptors names sets fields) q result.rule (monitor_after words descriptors names sets fields) result.gained }
+    ensures { Gives (monitor words.old descriptors.now names.now sets.now fields.now) q result.rule (monitor words.new descriptors.now names.now sets.now fields.now) result.gained }
 {
     let plan = gift_of(words, descriptors, names, q);
     let k = first_anew(words, plan, sets, fields);
@@ -145,7 +145,7 @@ fn exchange_in(
     q: Call,
 ) -> Gift
     requires { Passes words.old descriptors.now names.now q × (q.kind ≡ 12) }
-    ensures { Gives (monitor_before words descriptors names sets fields) q result.rule (monitor_after words descriptors names sets fields) result.gained }
+    ensures { Gives (monitor words.old descriptors.now names.now sets.now fields.now) q result.rule (monitor words.new descriptors.now names.now sets.now fields.now) result.gained }
 {
     let plan = exchange_of(words, descriptors, names, q);
     let k = first_anew(words, plan, sets, fields);
@@ -170,7 +170,7 @@ fn copy_in(
     q: Call,
 ) -> Gift
     requires { Passes words.old descriptors.old names.now q × (q.kind ≡ 17) }
-    ensures { Gives (monitor_before words descriptors names sets fields) q result.rule (monitor_after words descriptors names sets fields) result.gained }
+    ensures { Gives (monitor words.old descriptors.old names.now sets.now fields.now) q result.rule (monitor words.new descriptors.new names.now sets.now fields.now) result.gained }
 {
     let plan = copy_of(words, descriptors, names, q);
     let k = first_anew(words, plan, sets, fields);
@@ -196,7 +196,7 @@ fn give_in(
     q: Call,
 ) -> Gift
     requires { Passes words.old descriptors.old names.now q × (gives_at (kind_of q.kind) ≡ true) }
-    ensures { Gives (monitor_before words descriptors names sets fields) q result.rule (monitor_after words descriptors names sets fields) result.gained }
+    ensures { Gives (monitor words.old descriptors.old names.now sets.now fields.now) q result.rule (monitor words.new descriptors.new names.now sets.now fields.now) result.gained }
 {
     let kind = q.kind;
     match kind {
@@ -215,7 +215,7 @@ pub fn call_in(
     fields: &[u8; 129],
     q: Call,
 ) -> Answer
-    ensures { Answers (monitor_before words descriptors names sets fields) (a_call (call_in q)) (record { answer = result; monitor = monitor_after words descriptors names sets fields }) }
+    ensures { Answers (monitor words.old descriptors.old names.old sets.now fields.now) (a_call (call_in q)) (record { answer = result; monitor = monitor words.new descriptors.new names.new sets.now fields.now }) }
 {
     lengths(words, names);
     let n = refusal(words, descriptors, names, q);
@@ -246,7 +246,7 @@ pub fn call_code(
     fields: &[u8; 129],
     q: Call,
 ) -> u32
-    ensures { Coded (Answers (monitor_before words descriptors names sets fields) (a_call (call_in q))) result (monitor_after words descriptors names sets fields) }
+    ensures { Coded (Answers (monitor words.old descriptors.old names.old sets.now fields.now) (a_call (call_in q))) result (monitor words.new descriptors.new names.new sets.now fields.now) }
 {
     let answer = call_in(words, descriptors, names, sets, fields, q);
     code(answer)

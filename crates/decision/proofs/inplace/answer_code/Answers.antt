@@ -16,7 +16,7 @@ returns-in-Unreadable c =
     record {
       answer = Refused _;
       code = c.code.ensures;
-      promised = by_reading _ _ (Unreadable _) _ (ap reading_of (sym c.«record».given.1) ∙ c.read-record.ensures) (refused_as _ _ _ refl);
+      promised = by_reading _ _ (Unreadable _) _ (ap reading_of (sym c.in-Unreadable.is) ∙ c.read-record.ensures) (refused_as _ _ _ refl);
     }
 
 pub returns-in-Call : goal.returns-in-Call
@@ -25,7 +25,7 @@ returns-in-Call c =
     record {
       answer = c.call_code.ensures.answer;
       code = c.call_code.ensures.code;
-      promised = by_reading _ _ (Call _ _ _ _ _) _ (ap reading_of (sym c.record-in-Call-1.given.1) ∙ c.read-record.ensures) (rw c.call-q.ensures at c.call_code.ensures.promised);
+      promised = by_reading _ _ (Call _ _ _ _ _) _ (ap reading_of (sym c.in-Call.is) ∙ c.read-record.ensures) (rw c.call-q.ensures at c.call_code.ensures.promised);
     }
 
 pub returns-in-Forbid : goal.returns-in-Forbid
@@ -35,7 +35,7 @@ returns-in-Forbid c =
     record {
       answer = c.load_in.result;
       code = c.code-in-Forbid.ensures;
-      promised = by_reading _ _ (Forbid _ _ _ _) _ (ap reading_of (sym c.record-in-Forbid-1.given.1) ∙ c.read-record.ensures) (rw c.rule-r.ensures at (c.load_in.ensures a.descriptors.now a.names.now));
+      promised = by_reading _ _ (Forbid _ _ _ _) _ (ap reading_of (sym c.in-Forbid.is) ∙ c.read-record.ensures) (rw c.rule-r.ensures at (c.load_in.ensures a.descriptors.now a.names.now));
     }
 
 pub returns-in-Separate : goal.returns-in-Separate
@@ -45,7 +45,7 @@ returns-in-Separate c =
     record {
       answer = c.load_in-in-Separate.result;
       code = c.code-in-Separate.ensures;
-      promised = by_reading _ _ (Separate _ _ _ _) _ (ap reading_of (sym c.record-in-Separate-1.given.1) ∙ c.read-record.ensures) (rw c.rule-r-in-Separate.ensures at (c.load_in-in-Separate.ensures a.descriptors.now a.names.now));
+      promised = by_reading _ _ (Separate _ _ _ _) _ (ap reading_of (sym c.in-Separate.is) ∙ c.read-record.ensures) (rw c.rule-r-in-Separate.ensures at (c.load_in-in-Separate.ensures a.descriptors.now a.names.now));
     }
 
 pub returns-in-Confine : goal.returns-in-Confine
@@ -55,5 +55,5 @@ returns-in-Confine c =
     record {
       answer = c.load_in-in-Confine.result;
       code = c.code-in-Confine.ensures;
-      promised = by_reading _ _ (Confine _ _ _ _) _ (ap reading_of (sym c.record-in-Confine-1.given.1) ∙ c.read-record.ensures) (rw c.rule-r-in-Confine.ensures at (c.load_in-in-Confine.ensures a.descriptors.now a.names.now));
+      promised = by_reading _ _ (Confine _ _ _ _) _ (ap reading_of (sym c.in-Confine.is) ∙ c.read-record.ensures) (rw c.rule-r-in-Confine.ensures at (c.load_in-in-Confine.ensures a.descriptors.now a.names.now));
     }

@@ -12,26 +12,26 @@ use Rattle.decision.proofs.inplace.answer_in.Goals as goal
 pub returns-in-Call : goal.returns-in-Call
 unfolding reading_of condition_of
 returns-in-Call c =
-    by_reading _ _ (Call _ _ _ _ _) _ (ap reading_of (sym c.record-in-Call-1.given.1) ∙ c.read-record.ensures) (rw c.call-q.ensures at c.call_in.ensures)
+    by_reading _ _ (Call _ _ _ _ _) _ (ap reading_of (sym c.in-Call.is) ∙ c.read-record.ensures) (rw c.call-q.ensures at c.call_in.ensures)
 
 pub returns-in-Forbid : goal.returns-in-Forbid
 unfolding reading_of condition_of
 returns-in-Forbid c =
     let a = c.args in
-    by_reading _ _ (Forbid _ _ _ _) _ (ap reading_of (sym c.record-in-Forbid-1.given.1) ∙ c.read-record.ensures) (rw c.rule-r.ensures at (c.load_in.ensures a.descriptors.now a.names.now))
+    by_reading _ _ (Forbid _ _ _ _) _ (ap reading_of (sym c.in-Forbid.is) ∙ c.read-record.ensures) (rw c.rule-r.ensures at (c.load_in.ensures a.descriptors.now a.names.now))
 
 pub returns-in-Separate : goal.returns-in-Separate
 unfolding reading_of condition_of
 returns-in-Separate c =
     let a = c.args in
-    by_reading _ _ (Separate _ _ _ _) _ (ap reading_of (sym c.record-in-Separate-1.given.1) ∙ c.read-record.ensures) (rw c.rule-r-in-Separate.ensures at (c.load_in-in-Separate.ensures a.descriptors.now a.names.now))
+    by_reading _ _ (Separate _ _ _ _) _ (ap reading_of (sym c.in-Separate.is) ∙ c.read-record.ensures) (rw c.rule-r-in-Separate.ensures at (c.load_in-in-Separate.ensures a.descriptors.now a.names.now))
 
 pub returns-in-Confine : goal.returns-in-Confine
 unfolding reading_of condition_of
 returns-in-Confine c =
     let a = c.args in
-    by_reading _ _ (Confine _ _ _ _) _ (ap reading_of (sym c.record-in-Confine-1.given.1) ∙ c.read-record.ensures) (rw c.rule-r-in-Confine.ensures at (c.load_in-in-Confine.ensures a.descriptors.now a.names.now))
+    by_reading _ _ (Confine _ _ _ _) _ (ap reading_of (sym c.in-Confine.is) ∙ c.read-record.ensures) (rw c.rule-r-in-Confine.ensures at (c.load_in-in-Confine.ensures a.descriptors.now a.names.now))
 
 pub returns-in-Unreadable : goal.returns-in-Unreadable
 unfolding reading_of tests_of first_that
-returns-in-Unreadable c = by_reading _ _ (Unreadable _) _ (ap reading_of (sym c.«record».given.1) ∙ c.read-record.ensures) (refused_as _ _ _ refl)
+returns-in-Unreadable c = by_reading _ _ (Unreadable _) _ (ap reading_of (sym c.in-Unreadable.is) ∙ c.read-record.ensures) (refused_as _ _ _ refl)

@@ -1,7 +1,6 @@
 -- `call_in` refuses, makes a call that cannot give, or gives what no rule stops and makes the rest.
 use mathlib.Core.Path.{◌≡◌, refl, sym, ◌∙◌}
 use lib.ListN.{length}
-use borrow.Author.Tests.{not-true, not-false}
 use Rattle.decision.specs.declared.Monitor.{Monitor}
 use Rattle.decision.specs.View.{monitor, view}
 use Rattle.decision.proofs.CallLaws.{passes, refused_call, gives_nothing, allowed_call, stopped_call, stopped_lt, stopped_passes}
@@ -24,7 +23,7 @@ pub returns-then-not-gives : goal.returns-then-not-gives
 unfolding view
 returns-then-not-gives c =
     allowed_call (met (goal.at.returns-then-not-gives c).Start) c.args.q (long (goal.at.returns-then-not-gives c).After-lengths) (named (goal.at.returns-then-not-gives c).After-lengths) _ c.refusal-n.ensures c.if-n-ne0.false _ _ _
-    (gives_nothing (met (goal.at.returns-then-not-gives c).Start) c.args.q (long (goal.at.returns-then-not-gives c).After-lengths) (sym c.gives.ensures ∙ not-true _ c.if-not-gives.true) _ _ _ c.finish.ensures) refl refl
+    (gives_nothing (met (goal.at.returns-then-not-gives c).Start) c.args.q (long (goal.at.returns-then-not-gives c).After-lengths) (sym c.gives.ensures ∙ c.if-not-gives.true) _ _ _ c.finish.ensures) refl refl
 
 pub stop_in-d-requires : goal.stop_in-d-requires
 stop_in-d-requires c = (
@@ -54,4 +53,4 @@ pub finish-requires : goal.finish-requires
 finish-requires c = passes _ _ _ _ _ c.refusal-n.ensures c.if-n-ne0.false
 
 pub give_in-g-requires : goal.give_in-g-requires
-give_in-g-requires c = (passes _ _ _ _ _ c.refusal-n.ensures c.if-n-ne0.false, sym c.gives.ensures ∙ not-false _ c.if-not-gives.false)
+give_in-g-requires c = (passes _ _ _ _ _ c.refusal-n.ensures c.if-n-ne0.false, sym c.gives.ensures ∙ c.if-not-gives.false)

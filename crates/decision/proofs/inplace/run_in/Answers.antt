@@ -3,7 +3,7 @@ use Prim.Native.Nat.{◌*◌, ◌-◌, ◌<◌, ◌^◌}
 use native.Mathlib.Omega.{arith}
 use mathlib.Core.Path.{sym, ◌∙◌}
 use lib.ListN.{length}
-use borrow.Author.Tests.{not-true, not-false, leb-true}
+use borrow.Author.Tests.{leb-true}
 use Rattle.decision.specs.View.{monitor}
 use Rattle.decision.proofs.LogLaws.{end_past, end_within, Running, run_start, run_room, run_more, run_end, run_refused}
 use borrow.Author.Rules.{rules}
@@ -14,10 +14,10 @@ loop-at-preserved c =
     (run_more c.loop-at.invariant.0 c.loop-at-test.true _ c.end_after-end.ensures _ c.answer_code.ensures.promised _ c.answer_code.ensures.code, c.loop-at.invariant.1)
 
 pub returns-then-not-has_room : goal.returns-then-not-has_room
-returns-then-not-has_room c = run_refused _ _ _ (sym c.has_room.ensures ∙ not-true _ c.if-not-has_room.true)
+returns-then-not-has_room c = run_refused _ _ _ (sym c.has_room.ensures ∙ c.if-not-has_room.true)
 
 pub loop-at-init : goal.loop-at-init
-loop-at-init c = (run_start _ _ _ (leb-true _ _ (sym c.has_room.ensures ∙ not-false _ c.if-not-has_room.false)), search rules)
+loop-at-init c = (run_start _ _ _ (leb-true _ _ (sym c.has_room.ensures ∙ c.if-not-has_room.false)), search rules)
 
 pub slice_bounds-answer_code-count : goal.slice_bounds-answer_code-count
 slice_bounds-answer_code-count c = omega (arith, end_past)
