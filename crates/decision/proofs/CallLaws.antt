@@ -10,7 +10,7 @@ use Rattle.flow.specs.Lists.{first_that, refusal_from}
 use Rattle.flow.specs.Calls.{Kind, Call, change, after}
 use Rattle.flow.specs.Records.{kind_of, call_by, call_from, a_call}
 use Rattle.flow.specs.Refusals.{call_tests, tests_of}
-use Rattle.flow.specs.Verdicts.{gained_from, stopped}
+use Rattle.flow.specs.Verdicts.{gained_from}
 use Rattle.flow.specs.Box.{State, Rule}
 use Rattle.flow.specs.Gained.{gained}
 use Rattle.flow.proofs.GainLaws.{gained_none}

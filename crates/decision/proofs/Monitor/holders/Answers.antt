@@ -1,6 +1,5 @@
 -- `Monitor::holders` asks the tracker.
 use Rattle.decision.specs.View.{view}
-use borrow.Author.Rules.{rules}
 use Rattle.decision.proofs.Monitor.holders.Goals as goal
 
 pub returns : goal.returns

@@ -7,7 +7,6 @@ use Rattle.records.specs.declared.Record.TheVariants.{Unreadable, Call, Forbid, 
 use Rattle.records.specs.Reading.{reading_of}
 use Rattle.decision.specs.declared.Answer.TheVariants.{Refused}
 use Rattle.decision.proofs.AnswerLaws.{refused_as, by_reading}
-use borrow.Author.Rules.{rules}
 use Rattle.decision.proofs.inplace.answer_code.Goals as goal
 
 pub returns-in-Unreadable : goal.returns-in-Unreadable

@@ -6,7 +6,6 @@ use Rattle.flow.specs.Refusals.{tests_of}
 use Rattle.records.specs.declared.Record.TheVariants.{Unreadable, Call, Forbid, Separate, Confine}
 use Rattle.records.specs.Reading.{reading_of}
 use Rattle.decision.proofs.AnswerLaws.{refused_as, by_reading}
-use borrow.Author.Rules.{rules}
 use Rattle.decision.proofs.inplace.answer_in.Goals as goal
 
 pub returns-in-Call : goal.returns-in-Call

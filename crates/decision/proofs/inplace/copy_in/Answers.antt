@@ -9,7 +9,6 @@ use Rattle.tracker.proofs.Joined.{copies}
 use Rattle.decision.specs.declared.Monitor.{Monitor}
 use Rattle.decision.specs.View.{maps, monitor}
 use Rattle.decision.proofs.CallLaws.{gives_stopped, gives_made, passes_made}
-use borrow.Author.Rules.{rules}
 use Rattle.decision.proofs.inplace.copy_in.Goals as goal
 use Rattle.decision.proofs.inplace.copy_in.Goals.{Start}
 

@@ -5,7 +5,6 @@ use Rattle.tracker.proofs.Joined.{both_no_fork, gifts_alone}
 use Rattle.decision.specs.declared.Monitor.{Monitor}
 use Rattle.decision.specs.View.{maps, monitor}
 use Rattle.decision.proofs.CallLaws.{gives_stopped, gives_made, passes_made}
-use borrow.Author.Rules.{rules}
 use Rattle.decision.proofs.inplace.exchange_in.Goals as goal
 use Rattle.decision.proofs.inplace.exchange_in.Goals.{Start}
 

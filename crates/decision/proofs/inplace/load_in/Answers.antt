@@ -2,7 +2,6 @@
 use mathlib.Core.List.{[]}
 use Rattle.decision.specs.View.{monitor}
 use Rattle.decision.proofs.LoadLaws.{rule_unfit, rule_full, rule_broken, rule_loaded, store_asks}
-use borrow.Author.Rules.{rules}
 use Rattle.decision.proofs.inplace.load_in.Goals as goal
 
 -- `fit`: no test of the fields holds; `room`: there is room for one more

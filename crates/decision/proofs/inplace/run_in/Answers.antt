@@ -1,11 +1,8 @@
 -- `run_in` answers record after record. Where a record ends and that its code has room is known of every turn (LogLaws).
-use Prim.Native.Nat.{◌*◌, ◌-◌, ◌<◌, ◌^◌}
 use native.Mathlib.Omega.{arith}
 use mathlib.Core.Path.{sym, ◌∙◌}
-use lib.ListN.{length}
 use borrow.Author.Tests.{leb-true}
-use Rattle.decision.specs.View.{monitor}
-use Rattle.decision.proofs.LogLaws.{end_past, end_within, Running, run_start, run_room, run_more, run_end, run_refused}
+use Rattle.decision.proofs.LogLaws.{end_past, end_within, run_start, run_room, run_more, run_end, run_refused}
 use borrow.Author.Rules.{rules}
 use Rattle.decision.proofs.inplace.run_in.Goals as goal
 

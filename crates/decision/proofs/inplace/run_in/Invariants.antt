@@ -1,11 +1,7 @@
 use Prim.Native.Nat.{◌*◌, ◌-◌, ◌<◌, ◌^◌}
-use native.Mathlib.Omega.{arith}
-use mathlib.Core.Path.{sym, ◌∙◌}
 use lib.ListN.{length}
-use borrow.Author.Tests.{not-true, not-false, leb-true}
 use Rattle.decision.specs.View.{monitor}
-use Rattle.decision.proofs.LogLaws.{end_past, end_within, Running, run_start, run_room, run_more, run_end, run_refused}
-use borrow.Author.Rules.{rules}
+use Rattle.decision.proofs.LogLaws.{Running}
 use Rattle.decision.proofs.inplace.run_in.Given as goal
 
 abbrev pub invariant-loop-at : goal.invariant-loop-at

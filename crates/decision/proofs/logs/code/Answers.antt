@@ -3,7 +3,6 @@ use native.Mathlib.Omega.{arith}
 use mathlib.Core.Path.{refl}
 use Rattle.decision.specs.Answers.{word_of}
 use Rattle.decision.specs.Logs.{code_of}
-use borrow.Author.Rules.{rules}
 use Rattle.decision.proofs.logs.code.Goals as goal
 
 pub overflow_mul-result : goal.overflow_mul-result

@@ -1,7 +1,6 @@
 -- `has_room` goes by the log's length, or counts.
 use mathlib.Core.Path.{refl}
 use Rattle.decision.proofs.LogLaws.{room_enough}
-use borrow.Author.Rules.{rules}
 use Rattle.decision.proofs.logs.has_room.Goals as goal
 
 pub returns-then-log-room : goal.returns-then-log-room

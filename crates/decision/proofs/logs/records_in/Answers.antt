@@ -1,9 +1,6 @@
 -- `records_in` counts record by record.
-use Prim.Native.Nat.{◌-◌}
 use native.Mathlib.Omega.{arith}
-use lib.ListN.{length}
-use Rattle.decision.proofs.LogLaws.{Counted, count_start, count_more, count_end, end_past, end_within}
-use borrow.Author.Rules.{rules}
+use Rattle.decision.proofs.LogLaws.{count_start, count_more, count_end, end_past, end_within}
 use Rattle.decision.proofs.logs.records_in.Goals as goal
 
 pub loop-at-init : goal.loop-at-init

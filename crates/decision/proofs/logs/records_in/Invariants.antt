@@ -1,8 +1,6 @@
 use Prim.Native.Nat.{◌-◌}
-use native.Mathlib.Omega.{arith}
 use lib.ListN.{length}
-use Rattle.decision.proofs.LogLaws.{Counted, count_start, count_more, count_end, end_past, end_within}
-use borrow.Author.Rules.{rules}
+use Rattle.decision.proofs.LogLaws.{Counted}
 use Rattle.decision.proofs.logs.records_in.Given as goal
 
 abbrev pub invariant-loop-at : goal.invariant-loop-at
