@@ -19,8 +19,8 @@ row c = no_file_at (view c.args.words.now c.args.descriptors.now c.args.names.no
 
 pub returns-in-10 : goal.returns-in-10
 unfolding view no_file_at no_file kinds is_kind kind_number descriptor is_device
-returns-in-10 c = rw c.descriptor.ensures (kind_arm (row (goal.at.returns-in-10 c).Start) (10 ∷ []) _ refl _ c.in-10.keys1)
+returns-in-10 c = rw c.descriptor.ensures (kind_arm (row (goal.at.returns-in-10 c).Start) (10 ∷ []) _ refl _ c.in-10.is)
 
 pub returns-in_default : goal.returns-in_default
 unfolding view no_file_at no_file kinds is_kind kind_number descriptor is_device
-returns-in_default c = kind_rest (row (goal.at.returns-in_default c).Start) ((10 ∷ []) ∷ []) refl _ c.in_default.rest
+returns-in_default c = kind_rest (row (goal.at.returns-in_default c).Start) ((10 ∷ []) ∷ []) refl _ c.in_default.in_default-own.rest
