@@ -49,8 +49,8 @@ returns-in-2 c =
     rw (c.unless-in-2.ensures, c.is_bound.ensures)
     (as_test _ 14
     ∙ elim c.in-2-1.branch [
-      in-2-1 w ↦ kind_arm (row (goal.at.returns-in-2 c).Start) (2 ∷ []) _ refl _ (omega arith)
-    | in_default+else-kind-lt6+else-kind-lt13+then-kind-lt17 w ↦ kind_between (row (goal.at.returns-in-2 c).Start) ((19 ∷ []) ∷ (13 ∷ []) ∷ (2 ∷ []) ∷ []) 13 17 _ refl _ w.in_default-1.rest (omega arith) (omega arith) (omega arith)
+      | in-2-1 w ↦ kind_arm (row (goal.at.returns-in-2 c).Start) (2 ∷ []) _ refl _ (omega arith)
+      | in_default+else-kind-lt6+else-kind-lt13+then-kind-lt17 w ↦ kind_between (row (goal.at.returns-in-2 c).Start) ((19 ∷ []) ∷ (13 ∷ []) ∷ (2 ∷ []) ∷ []) 13 17 _ refl _ w.in_default-1.rest (omega arith) (omega arith) (omega arith)
     ])
 
 pub returns-in_default : goal.returns-in_default
