@@ -13,7 +13,6 @@ use Rattle.store.specs.Maps.{view}
 use Rattle.tracker.specs.Plans.{plan_of, plan_by, plan_at}
 use Rattle.tracker.proofs.Arms.{kind_arm, kind_rest}
 use Rattle.tracker.proofs.Facts.{below64, process_lt, process_itself, container_a, item_b, leads_to}
-use borrow.Author.Rules.{rules}
 use Rattle.tracker.proofs.plan.gift_of.Goals as goal
 use Rattle.tracker.proofs.plan.gift_of.Goals.{Start}
 

@@ -1,6 +1,5 @@
 -- `holders_in` refuses with 5, then with 13 once the holders are counted, and otherwise writes the holders in rising order.
 use native.Mathlib.Omega.{arith}
-use borrow.Author.Rules.{rules}
 use Rattle.store.specs.Maps.{view}
 use Rattle.tracker.specs.View.{state}
 use Rattle.tracker.proofs.Holders.{refused_range, refused_short, holders_given}

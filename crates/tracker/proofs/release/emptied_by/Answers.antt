@@ -14,7 +14,6 @@ use Rattle.tracker.specs.Plans.{emptied_by, emptied_at}
 use Rattle.tracker.proofs.Arms.{kind_arm, kind_rest}
 use Rattle.tracker.proofs.Facts.{process_lt, slot_a, file_c, leads_to}
 use Rattle.tracker.proofs.Finding.{free_entry}
-use borrow.Author.Rules.{rules}
 use Rattle.tracker.proofs.release.emptied_by.Goals as goal
 use Rattle.tracker.proofs.release.emptied_by.Goals.{Start}
 

@@ -14,7 +14,6 @@ use Rattle.store.specs.Maps.{view, file_set}
 use Rattle.tracker.proofs.Arms.{kind_arm, kind_rest}
 use Rattle.tracker.specs.Plans.{lost_by, lost_at}
 use Rattle.tracker.proofs.Facts.{process_lt, process_itself, name_a, name_b}
-use borrow.Author.Rules.{rules}
 use Rattle.tracker.proofs.release.lost_by.Goals as goal
 use Rattle.tracker.proofs.release.lost_by.Goals.{Start}
 

@@ -3,7 +3,6 @@ use mathlib.Core.Path.{sym, ◌∙◌}
 use Rattle.flow.specs.Box.{is_file}
 use Rattle.store.specs.Maps.{container_set}
 use Rattle.tracker.proofs.Finding.{unused_none, unused_one, gone_file, gone_no_file}
-use borrow.Author.Rules.{rules}
 use Rattle.tracker.proofs.release.unused.Goals as goal
 
 pub returns-then-not-e : goal.returns-then-not-e

@@ -7,7 +7,6 @@ use Rattle.flow.specs.Records.{kind_of}
 use Rattle.store.specs.Maps.{view}
 use Rattle.tracker.specs.Rows.{fits_at, dead_at, taken_at, missing_at}
 use Rattle.tracker.proofs.Tests.{four_first, five_first, six_first, seven_first, missing_first, nine_first, ten_first, seventeen_first, none_first}
-use borrow.Author.Rules.{rules}
 use Rattle.tracker.proofs.rows.first.Goals as goal
 use Rattle.tracker.proofs.rows.first.Goals.{Else-holds, Else-holds-2, Else-lacked-ne0, Else-not-fits}
 

@@ -5,7 +5,6 @@ use Rattle.flow.specs.Records.{kinds}
 use Rattle.tracker.specs.Rows.{known}
 use Rattle.tracker.proofs.Arms.{kind_rest}
 use Rattle.tracker.proofs.Tests.{at_kind, unknown_four}
-use borrow.Author.Rules.{rules}
 use Rattle.tracker.proofs.rows.refusal.Goals as goal
 
 pub returns-in_default : goal.returns-in_default

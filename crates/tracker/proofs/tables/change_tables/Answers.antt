@@ -10,7 +10,6 @@ use Rattle.store.specs.Maps.{Maps, with_tables, view}
 use Rattle.tracker.specs.Rows.{tables_at}
 use Rattle.tracker.proofs.Arms.{kind_arm, kind_rest}
 use Rattle.tracker.proofs.Facts.{process_lt, container_a, process_a, name_a, name_b, leads_to, room_read, room_both, some_mapping}
-use borrow.Author.Rules.{rules}
 use Rattle.tracker.proofs.tables.change_tables.Goals as goal
 use Rattle.tracker.proofs.tables.change_tables.Goals.{Start}
 

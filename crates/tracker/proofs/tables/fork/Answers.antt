@@ -5,7 +5,6 @@ use Rattle.flow.specs.Box.{row_of}
 use Rattle.flow.specs.Calls.{with_live, with_row, with_rows, with_descriptors, tables_by}
 use Rattle.store.specs.Maps.{Maps, with_tables, view}
 use Rattle.tracker.proofs.Facts.{below16}
-use borrow.Author.Rules.{rules}
 use Rattle.tracker.proofs.tables.fork.Goals as goal
 
 pub returns : goal.returns

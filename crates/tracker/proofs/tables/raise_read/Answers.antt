@@ -13,7 +13,6 @@ use Rattle.tracker.specs.Rows.{tables_at}
 use Rattle.tracker.specs.Plans.{gives_by, gives_at}
 use Rattle.tracker.proofs.Arms.{kind_arm, kind_rest}
 use Rattle.tracker.proofs.Facts.{process_lt, leads_to, room_read}
-use borrow.Author.Rules.{rules}
 use Rattle.tracker.proofs.tables.raise_read.Goals as goal
 use Rattle.tracker.proofs.tables.raise_read.Goals.{Start}
 

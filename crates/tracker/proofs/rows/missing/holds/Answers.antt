@@ -13,7 +13,6 @@ use Rattle.flow.specs.Refusals.{need_of, missing}
 use Rattle.store.specs.Maps.{view}
 use Rattle.tracker.specs.Rows.{missing_at, number_unless}
 use Rattle.tracker.proofs.Arms.{kind_arm, kind_between, kind_from}
-use borrow.Author.Rules.{rules}
 use Rattle.tracker.proofs.rows.missing.holds.Goals as goal
 use Rattle.tracker.proofs.rows.missing.holds.Goals.{Start, in-2-1, in_default+else-kind-lt6+else-kind-lt13+then-kind-lt17}
 

@@ -10,7 +10,6 @@ use Rattle.flow.specs.Refusals.{no_file}
 use Rattle.store.specs.Maps.{view}
 use Rattle.tracker.specs.Rows.{no_file_at}
 use Rattle.tracker.proofs.Arms.{kind_arm, kind_rest}
-use borrow.Author.Rules.{rules}
 use Rattle.tracker.proofs.rows.no_file.holds.Goals as goal
 use Rattle.tracker.proofs.rows.no_file.holds.Goals.{Start}
 

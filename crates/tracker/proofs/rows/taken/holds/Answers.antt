@@ -10,7 +10,6 @@ use Rattle.flow.specs.Refusals.{taken}
 use Rattle.store.specs.Maps.{view}
 use Rattle.tracker.specs.Rows.{taken_at}
 use Rattle.tracker.proofs.Arms.{kind_arm, kind_rest}
-use borrow.Author.Rules.{rules}
 use Rattle.tracker.proofs.rows.taken.holds.Goals as goal
 use Rattle.tracker.proofs.rows.taken.holds.Goals.{Start}
 
