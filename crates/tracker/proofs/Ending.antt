@@ -3,14 +3,13 @@ use Prim.Native.Nat.{ℕ, ◌-◌, ◌≤◌, ◌<◌}
 use native.Mathlib.Omega.{arith}
 use native.Mathlib.Decide.{ℕ_discrete}
 use mathlib.Core.Path.{◌≡◌, refl, sym, ap, ◌∙◌}
-use mathlib.Core.Bool.{true, false, not, ◌&&◌, ◌||◌}
+use mathlib.Core.Bool.{true, false, ◌&&◌, ◌||◌}
 use mathlib.Core.List.{List}
 use lib.Dec.{eqb}
 use lib.ListN.{get_or, length, set, replicate, length-set}
-use lib.Seq.{get_or-set_same, get_or-set_other}
-use borrow.Author.Tests.{ltb-true, eqb-true, eqb-false, eq-eqb, ne_eqb, not-false}
+use borrow.Author.Tests.{ltb-true, eqb-true, eqb-false, eq-eqb, not-false}
 use Rattle.sets.specs.Sets.{has, only, without, ◌∪◌, ◌∩◌}
-use Rattle.sets.proofs.Members.{union_has, inter_has, only_has, none_has, without_has}
+use Rattle.sets.proofs.Members.{union_has, inter_has, only_has, none_has}
 use Rattle.flow.specs.Lists.{is_in}
 use Rattle.flow.specs.Box.{is_device, is_file, container_of, is_target, closed, slot, descriptor_count, Sort, to_read, both_ways, Tables, no_mappings, row_of, mapped_in, feeders_of, feeds, descriptor, name, is_live, is_open, is_bound}
 use Rattle.flow.specs.Links.{mapped, used}

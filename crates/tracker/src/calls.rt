@@ -2,7 +2,7 @@
 ghost use Rattle.std.specs.Prelude.{◌≡◌, true};
 ghost use Rattle.flow.specs.Lists.{refusal_from};
 ghost use Rattle.flow.specs.Records.{kind_of};
-ghost use Rattle.store.specs.Maps.{maps_before, maps_after};
+ghost use Rattle.store.specs.Maps.{view};
 ghost use Rattle.tracker.specs.Rows.{call_in, Passes};
 ghost use Rattle.tracker.specs.Worked.{done, worked, Gives, finished};
 ghost use Rattle.tracker.specs.Plans.{gives_at, GivesOnce};
@@ -28,7 +28,7 @@ pub struct Made {
 // give have the functions below.
 pub fn finish(words: &mut [u64; 353], descriptors: &mut [u8; 512], names: &mut [u8; 128], q: Call)
     requires { Passes words.old descriptors.old names.old q }
-    ensures { maps_after words descriptors names ≡ finished (maps_before words descriptors names) q }
+    ensures { view words.new descriptors.new names.new ≡ finished (view words.old descriptors.old names.old) q }
 {
     let lost = lost_by(words, descriptors, names, q);
     let emptied = emptied_by(words, descriptors, names, q);
@@ -40,7 +40,7 @@ pub fn finish(words: &mut [u64; 353], descriptors: &mut [u8; 512], names: &mut [
 // The same of a call that gives once. Each sort of plan has its rest apart too, so that the compiler leads every kind past what the others need.
 pub fn finish_gift(words: &mut [u64; 353], descriptors: &[u8; 512], names: &[u8; 128], q: Call)
     requires { Passes words.old descriptors.now names.now q × GivesOnce q }
-    ensures { maps_after words descriptors names ≡ finished (maps_before words descriptors names) q }
+    ensures { view words.new descriptors.now names.now ≡ finished (view words.old descriptors.now names.now) q }
 {
     lengths(words, names);
     raise_read(words, descriptors, names, q);
@@ -49,7 +49,7 @@ pub fn finish_gift(words: &mut [u64; 353], descriptors: &[u8; 512], names: &[u8;
 // The same of a map both.
 pub fn finish_exchange(words: &mut [u64; 353], descriptors: &[u8; 512], names: &[u8; 128], q: Call)
     requires { Passes words.old descriptors.now names.now q × (q.kind ≡ 12) }
-    ensures { maps_after words descriptors names ≡ finished (maps_before words descriptors names) q }
+    ensures { view words.new descriptors.now names.now ≡ finished (view words.old descriptors.now names.now) q }
 {
     lengths(words, names);
     raise_both(words, descriptors, names, q);
@@ -58,7 +58,7 @@ pub fn finish_exchange(words: &mut [u64; 353], descriptors: &[u8; 512], names: &
 // The same of a fork.
 pub fn finish_copy(words: &mut [u64; 353], descriptors: &mut [u8; 512], names: &[u8; 128], q: Call)
     requires { Passes words.old descriptors.old names.now q × (q.kind ≡ 17) }
-    ensures { maps_after words descriptors names ≡ finished (maps_before words descriptors names) q }
+    ensures { view words.new descriptors.new names.now ≡ finished (view words.old descriptors.old names.now) q }
 {
     lengths(words, names);
     let held = held_by(words, descriptors, q.a);
@@ -69,7 +69,7 @@ pub fn finish_copy(words: &mut [u64; 353], descriptors: &mut [u8; 512], names: &
 // Makes a call that gives once and is not refused. Answers the containers that gained.
 fn make_gift(words: &mut [u64; 353], descriptors: &[u8; 512], names: &[u8; 128], q: Call) -> u64
     requires { Passes words.old descriptors.now names.now q × GivesOnce q }
-    ensures { Gives (maps_before words descriptors names) q (maps_after words descriptors names) result }
+    ensures { Gives (view words.old descriptors.now names.now) q (view words.new descriptors.now names.now) result }
 {
     let plan = gift_of(words, descriptors, names, q);
     let gained = make_items(words, plan);
@@ -80,7 +80,7 @@ fn make_gift(words: &mut [u64; 353], descriptors: &[u8; 512], names: &[u8; 128],
 // The same of a map both.
 fn make_exchange(words: &mut [u64; 353], descriptors: &[u8; 512], names: &[u8; 128], q: Call) -> u64
     requires { Passes words.old descriptors.now names.now q × (q.kind ≡ 12) }
-    ensures { Gives (maps_before words descriptors names) q (maps_after words descriptors names) result }
+    ensures { Gives (view words.old descriptors.now names.now) q (view words.new descriptors.now names.now) result }
 {
     let plan = exchange_of(words, descriptors, names, q);
     let gained = make_items(words, plan);
@@ -91,7 +91,7 @@ fn make_exchange(words: &mut [u64; 353], descriptors: &[u8; 512], names: &[u8; 1
 // The same of a fork.
 fn make_copy(words: &mut [u64; 353], descriptors: &mut [u8; 512], names: &[u8; 128], q: Call) -> u64
     requires { Passes words.old descriptors.old names.now q × (q.kind ≡ 17) }
-    ensures { Gives (maps_before words descriptors names) q (maps_after words descriptors names) result }
+    ensures { Gives (view words.old descriptors.old names.now) q (view words.new descriptors.new names.now) result }
 {
     let plan = copy_of(words, descriptors, names, q);
     let child = DEVICES + q.a;
@@ -103,7 +103,7 @@ fn make_copy(words: &mut [u64; 353], descriptors: &mut [u8; 512], names: &[u8; 1
 // Makes a call that can give and is not refused. Answers the containers that gained.
 fn give(words: &mut [u64; 353], descriptors: &mut [u8; 512], names: &[u8; 128], q: Call) -> u64
     requires { Passes words.old descriptors.old names.now q × (gives_at (kind_of q.kind) ≡ true) }
-    ensures { Gives (maps_before words descriptors names) q (maps_after words descriptors names) result }
+    ensures { Gives (view words.old descriptors.old names.now) q (view words.new descriptors.new names.now) result }
 {
     let kind = q.kind;
     match kind {
@@ -120,7 +120,7 @@ pub fn work(
     names: &mut [u8; 128],
     q: Call,
 ) -> Made
-    ensures { done (refusal_from result.refusal) (maps_after words descriptors names) result.gained ≡ worked (maps_before words descriptors names) (call_in q) }
+    ensures { done (refusal_from result.refusal) (view words.new descriptors.new names.new) result.gained ≡ worked (view words.old descriptors.old names.old) (call_in q) }
 {
     lengths(words, names);
     let n = refusal(words, descriptors, names, q);

@@ -2,7 +2,7 @@
 ghost use Rattle.std.specs.Prelude.{ℕ, ◌≡◌, List};
 ghost use Rattle.flow.specs.Records.{kind_of};
 ghost use Rattle.sets.specs.Sets.{◌∩◌};
-ghost use Rattle.store.specs.Maps.{view, with_items, cleared, files, file_set, container_set, maps_before, maps_after};
+ghost use Rattle.store.specs.Maps.{view, with_items, cleared, files, file_set, container_set, maps_before};
 ghost use Rattle.tracker.specs.Rows.{Passes};
 ghost use Rattle.tracker.specs.Plans.{held_by, lost_set, lost_at, free_at, emptied_at, gone_of};
 
@@ -111,7 +111,7 @@ fn unused(words: &[u64; 353], descriptors: &[u8; 512], names: &[u8; 128], e: u8)
 
 // Empties the container of number e, where that is a file or pipe that is not in use.
 fn release_one(words: &mut [u64; 353], descriptors: &[u8; 512], names: &[u8; 128], e: u8)
-    ensures { let m = maps_before words descriptors names in maps_after words descriptors names ≡ with_items m (cleared m.items (gone_of m.tables (file_set e))) }
+    ensures { let m = view words.old descriptors.now names.now in view words.new descriptors.now names.now ≡ with_items m (cleared m.items (gone_of m.tables (file_set e))) }
 {
     let c = unused(words, descriptors, names, e);
     empty_container(words, c);
@@ -119,7 +119,7 @@ fn release_one(words: &mut [u64; 353], descriptors: &[u8; 512], names: &[u8; 128
 
 // Empties each container of the set held that is not in use.
 fn release_held(words: &mut [u64; 353], descriptors: &[u8; 512], names: &[u8; 128], held: u64)
-    ensures { let m = maps_before words descriptors names in maps_after words descriptors names ≡ with_items m (cleared m.items (gone_of m.tables held)) }
+    ensures { let m = view words.old descriptors.now names.now in view words.new descriptors.now names.now ≡ with_items m (cleared m.items (gone_of m.tables held)) }
 {
     sets::lengths(words, names);
     if held != 0 {
@@ -130,7 +130,7 @@ fn release_held(words: &mut [u64; 353], descriptors: &[u8; 512], names: &[u8; 12
 
 // The same of its files and pipes, one after the other: for a fork, whose child holds none in a tracker that records made.
 pub fn release_each(words: &mut [u64; 353], descriptors: &[u8; 512], names: &[u8; 128], held: u64)
-    ensures { let m = maps_before words descriptors names in maps_after words descriptors names ≡ with_items m (cleared m.items (gone_of m.tables (held ∩ files))) }
+    ensures { let m = view words.old descriptors.now names.now in view words.new descriptors.now names.now ≡ with_items m (cleared m.items (gone_of m.tables (held ∩ files))) }
 {
     sets::lengths(words, names);
     let mut left = held;
@@ -143,7 +143,7 @@ pub fn release_each(words: &mut [u64; 353], descriptors: &[u8; 512], names: &[u8
 
 // Empties each container that is among the lost and not in use.
 pub fn release(words: &mut [u64; 353], descriptors: &[u8; 512], names: &[u8; 128], lost: Lost)
-    ensures { let m = maps_before words descriptors names in maps_after words descriptors names ≡ with_items m (cleared m.items (gone_of m.tables (lost_set lost))) }
+    ensures { let m = view words.old descriptors.now names.now in view words.new descriptors.now names.now ≡ with_items m (cleared m.items (gone_of m.tables (lost_set lost))) }
 {
     release_one(words, descriptors, names, lost.entry);
     release_one(words, descriptors, names, lost.unmapped);

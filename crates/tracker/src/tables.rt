@@ -4,7 +4,7 @@ ghost use Rattle.sets.specs.Sets.{only, ◌∪◌};
 ghost use Rattle.flow.specs.Box.{closed, slot};
 ghost use Rattle.flow.specs.Calls.{fork as forking, exit as exiting, with_live, tables_by};
 ghost use Rattle.flow.specs.Records.{kind_of};
-ghost use Rattle.store.specs.Maps.{view, with_tables, maps_before, maps_after};
+ghost use Rattle.store.specs.Maps.{view, with_tables};
 ghost use Rattle.tracker.specs.Rows.{tables_at, Passes};
 ghost use Rattle.tracker.specs.Plans.{GivesOnce};
 
@@ -80,7 +80,7 @@ pub fn change_tables(
     q: Call,
 )
     requires { Passes words.old descriptors.old names.old q }
-    ensures { let m = maps_before words descriptors names in maps_after words descriptors names ≡ with_tables m (tables_at m.tables q (kind_of q.kind)) }
+    ensures { let m = view words.old descriptors.old names.old in view words.new descriptors.new names.new ≡ with_tables m (tables_at m.tables q (kind_of q.kind)) }
 {
     let kind = q.kind;
     let p = q.process;
@@ -122,7 +122,7 @@ pub fn change_tables(
 // The same of the calls that give once: a mapping more for reading, or nothing.
 pub fn raise_read(words: &mut [u64; 353], descriptors: &[u8; 512], names: &[u8; 128], q: Call)
     requires { Passes words.old descriptors.now names.now q × GivesOnce q }
-    ensures { let m = maps_before words descriptors names in maps_after words descriptors names ≡ with_tables m (tables_at m.tables q (kind_of q.kind)) }
+    ensures { let m = view words.old descriptors.now names.now in view words.new descriptors.now names.now ≡ with_tables m (tables_at m.tables q (kind_of q.kind)) }
 {
     let kind = q.kind;
     match kind {
@@ -137,7 +137,7 @@ pub fn raise_read(words: &mut [u64; 353], descriptors: &[u8; 512], names: &[u8; 
 // The same of a map both: a mapping more both ways.
 pub fn raise_both(words: &mut [u64; 353], descriptors: &[u8; 512], names: &[u8; 128], q: Call)
     requires { Passes words.old descriptors.now names.now q × (q.kind ≡ 12) }
-    ensures { let m = maps_before words descriptors names in maps_after words descriptors names ≡ with_tables m (tables_at m.tables q (kind_of q.kind)) }
+    ensures { let m = view words.old descriptors.now names.now in view words.new descriptors.now names.now ≡ with_tables m (tables_at m.tables q (kind_of q.kind)) }
 {
     let to = descriptor(descriptors, Process(q.process), Descriptor(q.a));
     raise(words, Sort(BOTH_WAYS), Process(q.process), Container(to));

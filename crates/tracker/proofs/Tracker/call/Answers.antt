@@ -1,6 +1,5 @@
 -- `Tracker::call` answers as document 01 says.
 use mathlib.Core.Path.{refl}
-use borrow.Author.Rules.{rules}
 use Rattle.tracker.specs.Calling.{refusal_of, gained_by}
 use Rattle.tracker.proofs.Joined.{refused_call, made_done}
 use Rattle.tracker.proofs.Tracker.call.Goals as goal

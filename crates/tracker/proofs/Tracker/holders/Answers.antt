@@ -1,5 +1,4 @@
 -- `Tracker::holders` answers the query on the tracker's words.
-use borrow.Author.Rules.{rules}
 use Rattle.tracker.proofs.Tracker.holders.Goals as goal
 
 pub returns : goal.returns

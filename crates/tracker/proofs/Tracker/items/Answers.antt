@@ -1,5 +1,4 @@
 -- `Tracker::items` answers the query on the tracker's words.
-use borrow.Author.Rules.{rules}
 use Rattle.tracker.proofs.Tracker.items.Goals as goal
 
 pub returns : goal.returns

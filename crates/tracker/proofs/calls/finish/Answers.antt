@@ -3,7 +3,6 @@ use mathlib.Core.Path.{refl, ap, ◌∙◌}
 use Rattle.store.specs.Maps.{Maps}
 use Rattle.tracker.specs.Worked.{finished}
 use Rattle.tracker.proofs.Joined.{passes_on}
-use borrow.Author.Rules.{rules}
 use Rattle.tracker.proofs.calls.finish.Goals as goal
 
 pub change_tables-requires : goal.change_tables-requires

@@ -2,13 +2,13 @@
 use Rattle.tracker.proofs.calls.give.Goals as goal
 
 pub make_exchange-requires : goal.make_exchange-requires
-make_exchange-requires c = (c.requires.0, c.in-12.keys1)
+make_exchange-requires c = (c.requires.0, c.in-12.is)
 
 pub make_copy-requires : goal.make_copy-requires
-make_copy-requires c = (c.requires.0, c.in-17.keys2)
+make_copy-requires c = (c.requires.0, c.in-17.is)
 
 pub make_gift-requires : goal.make_gift-requires
-make_gift-requires c = (c.requires.0, (c.requires.1, c.in_default.rest.0.1, c.in_default.rest.1))
+make_gift-requires c = (c.requires.0, (c.requires.1, c.in_default.in_default-own.rest.0.1, c.in_default.in_default-own.rest.1))
 
 pub returns-in-12 : goal.returns-in-12
 returns-in-12 c = c.make_exchange.ensures

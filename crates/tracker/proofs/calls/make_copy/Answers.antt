@@ -8,7 +8,6 @@ use Rattle.store.specs.Maps.{Maps, view}
 use Rattle.tracker.specs.Worked.{finished}
 use Rattle.tracker.proofs.Facts.{process_a, own_a}
 use Rattle.tracker.proofs.Joined.{copies, gives_by_lem, still_passes}
-use borrow.Author.Rules.{rules}
 use Rattle.tracker.proofs.calls.make_copy.Goals as goal
 
 pub overflow_add-child : goal.overflow_add-child

@@ -3,7 +3,6 @@ use mathlib.Core.Path.{ap, ◌∙◌}
 use Rattle.store.specs.Maps.{Maps, view, gifts}
 use Rattle.tracker.specs.Worked.{finished}
 use Rattle.tracker.proofs.Joined.{both_no_fork, gifts_alone, gives_by_lem, still_passes}
-use borrow.Author.Rules.{rules}
 use Rattle.tracker.proofs.calls.make_exchange.Goals as goal
 
 pub finish_exchange-requires : goal.finish_exchange-requires

@@ -3,7 +3,6 @@ use mathlib.Core.Path.{ap, ◌∙◌}
 use Rattle.store.specs.Maps.{Maps, view, gifts}
 use Rattle.tracker.specs.Worked.{finished}
 use Rattle.tracker.proofs.Joined.{gifts_alone, gives_by_lem, still_passes}
-use borrow.Author.Rules.{rules}
 use Rattle.tracker.proofs.calls.make_gift.Goals as goal
 
 pub finish_gift-requires : goal.finish_gift-requires

@@ -10,7 +10,6 @@ use Rattle.store.specs.Maps.{view}
 use Rattle.tracker.specs.Plans.{plan_of, plan_by, plan_at}
 use Rattle.tracker.proofs.Arms.{kind_arm}
 use Rattle.tracker.proofs.Facts.{process_lt, process_a, own_a}
-use borrow.Author.Rules.{rules}
 use Rattle.tracker.proofs.plan.copy_of.Goals as goal
 
 pub overflow_add-a : goal.overflow_add-a

@@ -10,7 +10,6 @@ use Rattle.store.specs.Maps.{view}
 use Rattle.tracker.specs.Plans.{plan_by, plan_at}
 use Rattle.tracker.proofs.Arms.{kind_arm}
 use Rattle.tracker.proofs.Facts.{process_lt, leads_to}
-use borrow.Author.Rules.{rules}
 use Rattle.tracker.proofs.plan.exchange_of.Goals as goal
 
 pub exchanging-requires : goal.exchanging-requires

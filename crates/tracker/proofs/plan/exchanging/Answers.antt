@@ -8,7 +8,6 @@ use Rattle.flow.proofs.Moves.{receiver_at}
 use Rattle.store.specs.Maps.{Maps, view}
 use Rattle.tracker.specs.Plans.{plan, plan_of}
 use Rattle.tracker.proofs.Facts.{below64}
-use borrow.Author.Rules.{rules}
 use Rattle.tracker.proofs.plan.exchanging.Goals as goal
 
 pub returns : goal.returns

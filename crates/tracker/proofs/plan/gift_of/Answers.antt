@@ -13,7 +13,6 @@ use Rattle.store.specs.Maps.{view}
 use Rattle.tracker.specs.Plans.{plan_of, plan_by, plan_at}
 use Rattle.tracker.proofs.Arms.{kind_arm, kind_rest}
 use Rattle.tracker.proofs.Facts.{below64, process_lt, process_itself, container_a, item_b, leads_to}
-use borrow.Author.Rules.{rules}
 use Rattle.tracker.proofs.plan.gift_of.Goals as goal
 use Rattle.tracker.proofs.plan.gift_of.Goals.{Start}
 
@@ -32,24 +31,24 @@ unfolding view ◌∪◌ plan_at plan_by plan_of flow_by kinds descriptor kind_n
 returns-in-8 c =
     let D = c.args.descriptors.now in
     let N = c.args.names.now in
-    rw (c.giving.ensures, c.reach.ensures D N, c.items.ensures, c.descriptor-to.ensures, process_itself c.requires.0) (kind_arm (row (goal.at.returns-in-8 c).Start) (8 ∷ 11 ∷ []) _ refl _ c.in-8.keys1)
+    rw (c.giving.ensures, c.reach.ensures D N, c.items.ensures, c.descriptor-to.ensures, process_itself c.requires.0) (kind_arm (row (goal.at.returns-in-8 c).Start) (8 ∷ 11 ∷ []) _ refl _ c.in-8.is)
 
 pub returns-in-9 : goal.returns-in-9
 unfolding view ◌∪◌ plan_at plan_by plan_of flow_by kinds descriptor kind_number ranges need_of
 returns-in-9 c =
     let D = c.args.descriptors.now in
     let N = c.args.names.now in
-    rw (c.giving-in-9.ensures, c.reach-in-9.ensures D N, c.items-in-9.ensures, c.descriptor-to-in-9.ensures, below64 (leads_to c.requires.0 write c.in-9.keys2 refl)) (kind_arm (row (goal.at.returns-in-9 c).Start) (9 ∷ []) _ refl _ c.in-9.keys2)
+    rw (c.giving-in-9.ensures, c.reach-in-9.ensures D N, c.items-in-9.ensures, c.descriptor-to-in-9.ensures, below64 (leads_to c.requires.0 write c.in-9.is refl)) (kind_arm (row (goal.at.returns-in-9 c).Start) (9 ∷ []) _ refl _ c.in-9.is)
 
 pub returns-in-19 : goal.returns-in-19
 unfolding view ◌∪◌ plan_at plan_by plan_of flow_by kinds descriptor kind_number ranges need_of
 returns-in-19 c =
     let D = c.args.descriptors.now in
     let N = c.args.names.now in
-    rw (c.giving-in-19.ensures, c.reach-in-19.ensures D N, c.with.ensures, below64 (container_a c.requires.0 label c.in-19.keys3 refl), below64 (item_b c.requires.0 label c.in-19.keys3 refl)) (kind_arm (row (goal.at.returns-in-19 c).Start) (19 ∷ []) _ refl _ c.in-19.keys3)
+    rw (c.giving-in-19.ensures, c.reach-in-19.ensures D N, c.with.ensures, below64 (container_a c.requires.0 label c.in-19.is refl), below64 (item_b c.requires.0 label c.in-19.is refl)) (kind_arm (row (goal.at.returns-in-19 c).Start) (19 ∷ []) _ refl _ c.in-19.is)
 
 -- no other kind gives once
 pub returns-in_default : goal.returns-in_default
 unfolding plan_at plan_by plan_of flow_by kinds
 returns-in_default c =
-    c.giving-in_default.ensures ∙ kind_rest (row (goal.at.returns-in_default c).Start) ((17 ∷ []) ∷ (12 ∷ []) ∷ (19 ∷ []) ∷ (9 ∷ []) ∷ (8 ∷ 11 ∷ []) ∷ []) refl _ ((c.in_default.rest, c.requires.1.1), c.requires.1.2)
+    c.giving-in_default.ensures ∙ kind_rest (row (goal.at.returns-in_default c).Start) ((17 ∷ []) ∷ (12 ∷ []) ∷ (19 ∷ []) ∷ (9 ∷ []) ∷ (8 ∷ 11 ∷ []) ∷ []) refl _ ((c.in_default.in_default-own.rest, c.requires.1.1), c.requires.1.2)

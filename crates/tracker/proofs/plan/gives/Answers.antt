@@ -8,12 +8,12 @@ use Rattle.tracker.proofs.plan.gives.Goals as goal
 
 pub returns-in-8 : goal.returns-in-8
 unfolding gives_by gives_at kinds
-returns-in-8 c = kind_arm gives_at (8 ∷ 11 ∷ 17 ∷ 19 ∷ []) _ refl _ c.in-8.keys1
+returns-in-8 c = kind_arm gives_at (8 ∷ 11 ∷ 17 ∷ 19 ∷ []) _ refl _ c.in-8.is
 
 pub returns-in-9 : goal.returns-in-9
 unfolding gives_by gives_at kinds
-returns-in-9 c = kind_arm gives_at (9 ∷ 12 ∷ []) _ refl _ c.in-9.keys2
+returns-in-9 c = kind_arm gives_at (9 ∷ 12 ∷ []) _ refl _ c.in-9.is
 
 pub returns-in_default : goal.returns-in_default
 unfolding gives_by gives_at kinds
-returns-in_default c = kind_rest gives_at ((9 ∷ 12 ∷ []) ∷ (8 ∷ 11 ∷ 17 ∷ 19 ∷ []) ∷ []) refl _ c.in_default.rest
+returns-in_default c = kind_rest gives_at ((9 ∷ 12 ∷ []) ∷ (8 ∷ 11 ∷ 17 ∷ 19 ∷ []) ∷ []) refl _ c.in_default.in_default-own.rest

@@ -1,8 +1,6 @@
 -- `fill` writes the members of the set, the lowest first: after n turns n of them stand at the front of the slice and the others are left.
 use native.Mathlib.Omega.{arith}
-use borrow.Author.Rules.{rules}
-use Rattle.sets.specs.Sets.{count}
-use Rattle.tracker.proofs.Holders.{Partly, partly_none, Turn, partly_more, partly_all}
+use Rattle.tracker.proofs.Holders.{partly_none, Turn, partly_more, partly_all}
 use Rattle.tracker.proofs.queries.fill.Goals as goal
 use Rattle.tracker.proofs.queries.fill.Goals.{After-lowest-c}
 

@@ -1,7 +1,5 @@
-use native.Mathlib.Omega.{arith}
-use borrow.Author.Rules.{rules}
 use Rattle.sets.specs.Sets.{count}
-use Rattle.tracker.proofs.Holders.{Partly, partly_none, Turn, partly_more, partly_all}
+use Rattle.tracker.proofs.Holders.{Partly}
 use Rattle.tracker.proofs.queries.fill.Given as goal
 
 abbrev pub invariant-loop-left : goal.invariant-loop-left

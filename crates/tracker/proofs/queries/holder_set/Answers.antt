@@ -1,11 +1,11 @@
 -- `holder_set` makes the set of the containers that hold the item: after c turns it is those of the first c containers.
-use Prim.Native.Nat.{◌-◌, ◌%◌, ◌≤◌}
+use Prim.Native.Nat.{◌%◌}
 use mathlib.Core.Path.{◌≡◌, sym, ◌∙◌}
 use native.Mathlib.Omega.{arith}
 use borrow.Author.Rules.{rules}
 use Rattle.store.specs.Maps.{part, view}
 use Rattle.tracker.specs.View.{state}
-use Rattle.tracker.proofs.Holders.{found_to, found_none, found_next, found_all}
+use Rattle.tracker.proofs.Holders.{found_none, found_next, found_all}
 use Rattle.tracker.proofs.queries.holder_set.Goals as goal
 
 pub loop-c-init : goal.loop-c-init

@@ -1,10 +1,7 @@
 use Prim.Native.Nat.{◌-◌, ◌%◌, ◌≤◌}
-use mathlib.Core.Path.{◌≡◌, sym, ◌∙◌}
-use native.Mathlib.Omega.{arith}
-use borrow.Author.Rules.{rules}
-use Rattle.store.specs.Maps.{part, view}
-use Rattle.tracker.specs.View.{state}
-use Rattle.tracker.proofs.Holders.{found_to, found_none, found_next, found_all}
+use mathlib.Core.Path.{◌≡◌}
+use Rattle.store.specs.Maps.{part}
+use Rattle.tracker.proofs.Holders.{found_to}
 use Rattle.tracker.proofs.queries.holder_set.Given as goal
 
 abbrev pub invariant-loop-c : goal.invariant-loop-c

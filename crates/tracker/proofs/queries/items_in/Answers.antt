@@ -1,6 +1,5 @@
 -- `items_in` reads a cell, or refuses.
 use mathlib.Core.Path.{ap, ◌∙◌}
-use borrow.Author.Rules.{rules}
 use Rattle.flow.specs.Box.{items_of}
 use Rattle.flow.specs.Queries.{result}
 use Rattle.store.specs.Maps.{view}

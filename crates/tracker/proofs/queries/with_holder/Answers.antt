@@ -1,7 +1,6 @@
 -- `with_holder` adds the container to the set where its items have the item.
 use Prim.Native.Nat.{◌%◌}
 use mathlib.Core.Path.{sym, ◌∙◌}
-use borrow.Author.Rules.{rules}
 use Rattle.tracker.proofs.Holders.{took, passed}
 use Rattle.tracker.proofs.queries.with_holder.Goals as goal
 

@@ -2,7 +2,6 @@
 use mathlib.Core.Path.{sym, ◌∙◌}
 use Rattle.flow.proofs.Bools.{chosen_l, chosen_r}
 use Rattle.tracker.specs.Plans.{free_at}
-use borrow.Author.Rules.{rules}
 use Rattle.tracker.proofs.release.free.Goals as goal
 
 pub returns-then-is_fed : goal.returns-then-is_fed

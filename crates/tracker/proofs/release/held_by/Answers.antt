@@ -2,7 +2,6 @@
 use Rattle.sets.specs.Sets.{◌∪◌, ◌∩◌}
 use Rattle.store.specs.Maps.{view}
 use Rattle.tracker.specs.Plans.{held_by}
-use borrow.Author.Rules.{rules}
 use Rattle.tracker.proofs.release.held_by.Goals as goal
 
 pub returns : goal.returns

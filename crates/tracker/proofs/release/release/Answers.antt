@@ -6,7 +6,6 @@ use Rattle.sets.specs.Sets.{◌∪◌}
 use Rattle.store.specs.Maps.{view, with_items, cleared, file_set}
 use Rattle.tracker.specs.Plans.{gone_of}
 use Rattle.tracker.proofs.Finding.{cleared_join, gone_both}
-use borrow.Author.Rules.{rules}
 use Rattle.tracker.proofs.release.release.Goals as goal
 
 pub returns : goal.returns

@@ -2,11 +2,10 @@
 use native.Mathlib.Omega.{arith}
 use mathlib.Core.Path.{◌≡◌}
 use lib.ListN.{length}
-use Rattle.sets.specs.Sets.{count}
 use Rattle.sets.proofs.Members.{turn_below, turn_less}
 use Rattle.store.specs.Maps.{view}
 use Rattle.store.proofs.Parts.{part_length}
-use Rattle.tracker.proofs.Finding.{Releasing, releasing_start, releasing_more, releasing_end}
+use Rattle.tracker.proofs.Finding.{releasing_start, releasing_more, releasing_end}
 use borrow.Author.Rules.{rules}
 use Rattle.tracker.proofs.release.release_each.Goals as goal
 use Rattle.tracker.proofs.release.release_each.Goals.{After-lengths}

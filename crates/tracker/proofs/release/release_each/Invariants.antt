@@ -1,12 +1,6 @@
-use native.Mathlib.Omega.{arith}
-use mathlib.Core.Path.{◌≡◌}
-use lib.ListN.{length}
 use Rattle.sets.specs.Sets.{count}
-use Rattle.sets.proofs.Members.{turn_below, turn_less}
 use Rattle.store.specs.Maps.{view}
-use Rattle.store.proofs.Parts.{part_length}
-use Rattle.tracker.proofs.Finding.{Releasing, releasing_start, releasing_more, releasing_end}
-use borrow.Author.Rules.{rules}
+use Rattle.tracker.proofs.Finding.{Releasing}
 use Rattle.tracker.proofs.release.release_each.Given as goal
 
 abbrev pub invariant-loop-left : goal.invariant-loop-left

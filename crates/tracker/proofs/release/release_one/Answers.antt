@@ -1,5 +1,4 @@
 -- `release_one` empties the container of an entry where nothing uses it.
-use borrow.Author.Rules.{rules}
 use Rattle.tracker.proofs.release.release_one.Goals as goal
 
 pub returns : goal.returns

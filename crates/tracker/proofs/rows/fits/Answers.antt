@@ -20,7 +20,7 @@ row c = fits_at c.args.q
 pub returns-in-7 : goal.returns-in-7
 unfolding fits_at fields_fit ranges in_range is_file kinds
 returns-in-7 c =
-    kind_between (row (goal.at.returns-in-7 c).Start) ((19 ∷ []) ∷ (17 ∷ []) ∷ (14 ∷ []) ∷ (13 ∷ []) ∷ (6 ∷ []) ∷ (5 ∷ []) ∷ (4 ∷ []) ∷ (3 ∷ []) ∷ (2 ∷ []) ∷ (1 ∷ 18 ∷ []) ∷ []) 1 13 _ refl _ c.in_default-1.rest c.if-kind-lt1.false c.if-kind-lt13.true (omega arith)
+    kind_between (row (goal.at.returns-in-7 c).Start) ((19 ∷ []) ∷ (17 ∷ []) ∷ (14 ∷ []) ∷ (13 ∷ []) ∷ (6 ∷ []) ∷ (5 ∷ []) ∷ (4 ∷ []) ∷ (3 ∷ []) ∷ (2 ∷ []) ∷ (1 ∷ 18 ∷ []) ∷ []) 1 13 _ refl _ c.in-7.in_default-own.rest (omega arith) (omega arith) (omega arith)
 
 -- two tests after another, in the other order
 exchanged : (x y z : Bool) → ((x && y) && z) ≡ ((x && z) && y)
@@ -32,54 +32,54 @@ unfolding fits_at fields_fit ranges in_range is_file kinds
 returns-in-15 c =
     let q = c.args.q in
     exchanged (ltb q.process 16 && ltb q.a 128) (eqb q.c 0) (ltb q.b 128)
-    ∙ kind_between (row (goal.at.returns-in-15 c).Start) ((19 ∷ []) ∷ (17 ∷ []) ∷ (14 ∷ []) ∷ (13 ∷ []) ∷ (6 ∷ []) ∷ (5 ∷ []) ∷ (4 ∷ []) ∷ (3 ∷ []) ∷ (2 ∷ []) ∷ (1 ∷ 18 ∷ []) ∷ []) 13 17 _ refl _ c.in_default-1.rest c.if-kind-lt13.false c.if-kind-lt17.true (omega arith)
+    ∙ kind_between (row (goal.at.returns-in-15 c).Start) ((19 ∷ []) ∷ (17 ∷ []) ∷ (14 ∷ []) ∷ (13 ∷ []) ∷ (6 ∷ []) ∷ (5 ∷ []) ∷ (4 ∷ []) ∷ (3 ∷ []) ∷ (2 ∷ []) ∷ (1 ∷ 18 ∷ []) ∷ []) 13 17 _ refl _ c.in-15.in_default-own.rest (omega arith) (omega arith) (omega arith)
 
 pub returns-in_default : goal.returns-in_default
 unfolding fits_at fields_fit ranges in_range is_file kinds
 returns-in_default c =
-    kind_between (row (goal.at.returns-in_default c).Start) ((19 ∷ []) ∷ (17 ∷ []) ∷ (14 ∷ []) ∷ (13 ∷ []) ∷ (6 ∷ []) ∷ (5 ∷ []) ∷ (4 ∷ []) ∷ (3 ∷ []) ∷ (2 ∷ []) ∷ (1 ∷ 18 ∷ []) ∷ []) 0 1 _ refl _ c.in_default-1.rest (omega arith) c.if-kind-lt1.true (omega arith)
+    kind_between (row (goal.at.returns-in_default c).Start) ((19 ∷ []) ∷ (17 ∷ []) ∷ (14 ∷ []) ∷ (13 ∷ []) ∷ (6 ∷ []) ∷ (5 ∷ []) ∷ (4 ∷ []) ∷ (3 ∷ []) ∷ (2 ∷ []) ∷ (1 ∷ 18 ∷ []) ∷ []) 0 1 _ refl _ c.in_default.in_default-own.rest (omega arith) (omega arith) (omega arith)
 
 pub returns-in_default-2 : goal.returns-in_default-2
 unfolding fits_at fields_fit ranges in_range is_file kinds
 returns-in_default-2 c =
-    kind_from (row (goal.at.returns-in_default-2 c).Start) ((19 ∷ []) ∷ (17 ∷ []) ∷ (14 ∷ []) ∷ (13 ∷ []) ∷ (6 ∷ []) ∷ (5 ∷ []) ∷ (4 ∷ []) ∷ (3 ∷ []) ∷ (2 ∷ []) ∷ (1 ∷ 18 ∷ []) ∷ []) 17 refl _ c.in_default-1.rest c.if-kind-lt17.false
+    kind_from (row (goal.at.returns-in_default-2 c).Start) ((19 ∷ []) ∷ (17 ∷ []) ∷ (14 ∷ []) ∷ (13 ∷ []) ∷ (6 ∷ []) ∷ (5 ∷ []) ∷ (4 ∷ []) ∷ (3 ∷ []) ∷ (2 ∷ []) ∷ (1 ∷ 18 ∷ []) ∷ []) 17 refl _ c.in_default.in_default-own.rest (omega arith)
 
 pub returns-in-1 : goal.returns-in-1
 unfolding fits_at fields_fit ranges in_range is_file kinds
-returns-in-1 c = kind_arm (row (goal.at.returns-in-1 c).Start) (1 ∷ 18 ∷ []) _ refl _ c.in-1.keys1
+returns-in-1 c = kind_arm (row (goal.at.returns-in-1 c).Start) (1 ∷ 18 ∷ []) _ refl _ c.in-1.is
 
 pub returns-in-2 : goal.returns-in-2
 unfolding fits_at fields_fit ranges in_range is_file kinds
-returns-in-2 c = kind_arm (row (goal.at.returns-in-2 c).Start) (2 ∷ []) _ refl _ c.in-2.keys2
+returns-in-2 c = kind_arm (row (goal.at.returns-in-2 c).Start) (2 ∷ []) _ refl _ c.in-2.is
 
 pub returns-in-3 : goal.returns-in-3
 unfolding fits_at fields_fit ranges in_range is_file kinds
-returns-in-3 c = kind_arm (row (goal.at.returns-in-3 c).Start) (3 ∷ []) _ refl _ c.in-3.keys3
+returns-in-3 c = kind_arm (row (goal.at.returns-in-3 c).Start) (3 ∷ []) _ refl _ c.in-3.is
 
 pub returns-in-4 : goal.returns-in-4
 unfolding fits_at fields_fit ranges in_range is_file kinds
-returns-in-4 c = kind_arm (row (goal.at.returns-in-4 c).Start) (4 ∷ []) _ refl _ c.in-4.keys4
+returns-in-4 c = kind_arm (row (goal.at.returns-in-4 c).Start) (4 ∷ []) _ refl _ c.in-4.is
 
 pub returns-in-5 : goal.returns-in-5
 unfolding fits_at fields_fit ranges in_range is_file kinds
-returns-in-5 c = kind_arm (row (goal.at.returns-in-5 c).Start) (5 ∷ []) _ refl _ c.in-5.keys5
+returns-in-5 c = kind_arm (row (goal.at.returns-in-5 c).Start) (5 ∷ []) _ refl _ c.in-5.is
 
 pub returns-in-6 : goal.returns-in-6
 unfolding fits_at fields_fit ranges in_range is_file kinds
-returns-in-6 c = kind_arm (row (goal.at.returns-in-6 c).Start) (6 ∷ []) _ refl _ c.in-6.keys6
+returns-in-6 c = kind_arm (row (goal.at.returns-in-6 c).Start) (6 ∷ []) _ refl _ c.in-6.is
 
 pub returns-in-13 : goal.returns-in-13
 unfolding fits_at fields_fit ranges in_range is_file kinds
-returns-in-13 c = kind_arm (row (goal.at.returns-in-13 c).Start) (13 ∷ []) _ refl _ c.in-13.keys7
+returns-in-13 c = kind_arm (row (goal.at.returns-in-13 c).Start) (13 ∷ []) _ refl _ c.in-13.is
 
 pub returns-in-14 : goal.returns-in-14
 unfolding fits_at fields_fit ranges in_range is_file kinds
-returns-in-14 c = kind_arm (row (goal.at.returns-in-14 c).Start) (14 ∷ []) _ refl _ c.in-14.keys8
+returns-in-14 c = kind_arm (row (goal.at.returns-in-14 c).Start) (14 ∷ []) _ refl _ c.in-14.is
 
 pub returns-in-17 : goal.returns-in-17
 unfolding fits_at fields_fit ranges in_range is_file kinds
-returns-in-17 c = kind_arm (row (goal.at.returns-in-17 c).Start) (17 ∷ []) _ refl _ c.in-17.keys9
+returns-in-17 c = kind_arm (row (goal.at.returns-in-17 c).Start) (17 ∷ []) _ refl _ c.in-17.is
 
 pub returns-in-19 : goal.returns-in-19
 unfolding fits_at fields_fit ranges in_range is_file kinds
-returns-in-19 c = kind_arm (row (goal.at.returns-in-19 c).Start) (19 ∷ []) _ refl _ c.in-19.keys10
+returns-in-19 c = kind_arm (row (goal.at.returns-in-19 c).Start) (19 ∷ []) _ refl _ c.in-19.is

@@ -1,6 +1,5 @@
 -- One descriptor is set.
 use mathlib.Core.Path.{refl}
-use borrow.Author.Rules.{rules}
 use Rattle.tracker.proofs.tables.dup.Goals as goal
 
 pub returns : goal.returns

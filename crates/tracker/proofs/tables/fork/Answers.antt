@@ -5,13 +5,12 @@ use Rattle.flow.specs.Box.{row_of}
 use Rattle.flow.specs.Calls.{with_live, with_row, with_rows, with_descriptors, tables_by}
 use Rattle.store.specs.Maps.{Maps, with_tables, view}
 use Rattle.tracker.proofs.Facts.{below16}
-use borrow.Author.Rules.{rules}
 use Rattle.tracker.proofs.tables.fork.Goals as goal
 
 pub returns : goal.returns
 unfolding view with_live with_row with_rows with_descriptors row_of tables_by
 returns c n =
-    let d = c.copy_block.new.0 in
+    let d = c.copy_block.new.descriptors in
     c.set_live.ensures d n
     ∙ ap (λ (m : Maps). with_tables m (with_live m.tables c.with.result)) (c.copy_rows.ensures d n)
     ∙ rw (c.copy_block.ensures, c.with.ensures, c.live-z.ensures, mod-eq_of_lt c.requires.0, mod-eq_of_lt c.requires.1, below16 c.requires.1) refl

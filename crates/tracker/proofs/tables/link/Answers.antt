@@ -1,6 +1,5 @@
 -- One name is set.
 use mathlib.Core.Path.{refl}
-use borrow.Author.Rules.{rules}
 use Rattle.tracker.proofs.tables.link.Goals as goal
 
 pub returns : goal.returns

@@ -10,7 +10,6 @@ use Rattle.store.specs.Maps.{Maps, with_tables, view}
 use Rattle.tracker.specs.Rows.{tables_at}
 use Rattle.tracker.proofs.Arms.{kind_arm}
 use Rattle.tracker.proofs.Facts.{process_lt, leads_to, room_both}
-use borrow.Author.Rules.{rules}
 use Rattle.tracker.proofs.tables.raise_both.Goals as goal
 use Rattle.tracker.proofs.tables.raise_both.Goals.{Start}
 

@@ -13,7 +13,6 @@ use Rattle.tracker.specs.Rows.{tables_at}
 use Rattle.tracker.specs.Plans.{gives_by, gives_at}
 use Rattle.tracker.proofs.Arms.{kind_arm, kind_rest}
 use Rattle.tracker.proofs.Facts.{process_lt, leads_to, room_read}
-use borrow.Author.Rules.{rules}
 use Rattle.tracker.proofs.tables.raise_read.Goals as goal
 use Rattle.tracker.proofs.tables.raise_read.Goals.{Start}
 
@@ -33,15 +32,15 @@ is_row c = chosen_l (gives_at (kind_of c.args.q.kind)) _ _ c.requires.1.0
 pub raise-requires : goal.raise-requires
 unfolding sort_of kind_number need_of
 raise-requires c =
-    (process_lt c.requires.0, rw c.descriptor-to.ensures (leads_to c.requires.0 map_read c.in-11.keys1 refl), rw c.descriptor-to.ensures (room_read c.requires.0 c.in-11.keys1))
+    (process_lt c.requires.0, rw c.descriptor-to.ensures (leads_to c.requires.0 map_read c.in-11.is refl), rw c.descriptor-to.ensures (room_read c.requires.0 c.in-11.is))
 
 pub returns-in-11 : goal.returns-in-11
 unfolding view tables_at tables_by kinds descriptor sort_of
 returns-in-11 c =
-    c.raise.ensures c.args.descriptors.now c.args.names.now ∙ rw c.descriptor-to.ensures (kind_arm (row (goal.at.returns-in-11 c).Start) (11 ∷ []) _ refl _ c.in-11.keys1)
+    c.raise.ensures c.args.descriptors.now c.args.names.now ∙ rw c.descriptor-to.ensures (kind_arm (row (goal.at.returns-in-11 c).Start) (11 ∷ []) _ refl _ c.in-11.is)
 
 -- the others that give once change no table
 pub returns-in_default : goal.returns-in_default
 unfolding tables_at tables_by kinds gives_at gives_by
 returns-in_default c =
-    kind_rest (asked (goal.at.returns-in_default c).Start) ((17 ∷ []) ∷ (12 ∷ []) ∷ (11 ∷ []) ∷ []) refl _ ((c.in_default.rest, c.requires.1.1), c.requires.1.2) ∙ is_row (goal.at.returns-in_default c).Start
+    kind_rest (asked (goal.at.returns-in_default c).Start) ((17 ∷ []) ∷ (12 ∷ []) ∷ (11 ∷ []) ∷ []) refl _ ((c.in_default.in_default-own.rest, c.requires.1.1), c.requires.1.2) ∙ is_row (goal.at.returns-in_default c).Start

@@ -1,6 +1,5 @@
 -- Two names are set.
 use mathlib.Core.Path.{refl}
-use borrow.Author.Rules.{rules}
 use Rattle.tracker.proofs.tables.rename.Goals as goal
 
 pub returns : goal.returns

@@ -2,7 +2,6 @@
 use mathlib.Core.Path.{refl, ◌∙◌}
 use Rattle.store.specs.Maps.{view}
 use Rattle.tracker.proofs.Facts.{below16}
-use borrow.Author.Rules.{rules}
 use Rattle.tracker.proofs.tables.start.Goals as goal
 
 pub returns : goal.returns

@@ -10,7 +10,6 @@ use Rattle.flow.specs.Refusals.{dead}
 use Rattle.store.specs.Maps.{view}
 use Rattle.tracker.specs.Rows.{dead_at}
 use Rattle.tracker.proofs.Arms.{kind_arm, kind_rest}
-use borrow.Author.Rules.{rules}
 use Rattle.tracker.proofs.rows.dead.holds.Goals as goal
 use Rattle.tracker.proofs.rows.dead.holds.Goals.{Start}
 
@@ -19,8 +18,8 @@ row c = dead_at (view c.args.words.now c.args.descriptors.now c.args.names.now).
 
 pub returns-in-1 : goal.returns-in-1
 unfolding view dead_at dead kinds is_kind kind_number is_live
-returns-in-1 c = kind_arm (row (goal.at.returns-in-1 c).Start) (1 ∷ 19 ∷ []) _ refl _ c.in-1.keys1
+returns-in-1 c = kind_arm (row (goal.at.returns-in-1 c).Start) (1 ∷ 19 ∷ []) _ refl _ c.in-1.is
 
 pub returns-in_default : goal.returns-in_default
 unfolding view dead_at dead kinds is_kind kind_number is_live
-returns-in_default c = rw c.is_live.ensures (kind_rest (row (goal.at.returns-in_default c).Start) ((1 ∷ 19 ∷ []) ∷ []) refl _ c.in_default.rest)
+returns-in_default c = rw c.is_live.ensures (kind_rest (row (goal.at.returns-in_default c).Start) ((1 ∷ 19 ∷ []) ∷ []) refl _ c.in_default.in_default-own.rest)

@@ -10,7 +10,6 @@ use Rattle.flow.specs.Refusals.{no_file}
 use Rattle.store.specs.Maps.{view}
 use Rattle.tracker.specs.Rows.{no_file_at}
 use Rattle.tracker.proofs.Arms.{kind_arm, kind_rest}
-use borrow.Author.Rules.{rules}
 use Rattle.tracker.proofs.rows.no_file.holds.Goals as goal
 use Rattle.tracker.proofs.rows.no_file.holds.Goals.{Start}
 
@@ -19,8 +18,8 @@ row c = no_file_at (view c.args.words.now c.args.descriptors.now c.args.names.no
 
 pub returns-in-10 : goal.returns-in-10
 unfolding view no_file_at no_file kinds is_kind kind_number descriptor is_device
-returns-in-10 c = rw c.descriptor.ensures (kind_arm (row (goal.at.returns-in-10 c).Start) (10 ∷ []) _ refl _ c.in-10.keys1)
+returns-in-10 c = rw c.descriptor.ensures (kind_arm (row (goal.at.returns-in-10 c).Start) (10 ∷ []) _ refl _ c.in-10.is)
 
 pub returns-in_default : goal.returns-in_default
 unfolding view no_file_at no_file kinds is_kind kind_number descriptor is_device
-returns-in_default c = kind_rest (row (goal.at.returns-in_default c).Start) ((10 ∷ []) ∷ []) refl _ c.in_default.rest
+returns-in_default c = kind_rest (row (goal.at.returns-in_default c).Start) ((10 ∷ []) ∷ []) refl _ c.in_default.in_default-own.rest

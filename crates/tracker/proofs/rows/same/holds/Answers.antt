@@ -16,8 +16,8 @@ row c = same_at c.args.q
 
 pub returns-in-4 : goal.returns-in-4
 unfolding same_at same_descriptors kinds is_kind kind_number
-returns-in-4 c = kind_arm (row (goal.at.returns-in-4 c).Start) (4 ∷ []) _ refl _ c.in-4.keys1
+returns-in-4 c = kind_arm (row (goal.at.returns-in-4 c).Start) (4 ∷ []) _ refl _ c.in-4.is
 
 pub returns-in_default : goal.returns-in_default
 unfolding same_at same_descriptors kinds is_kind kind_number
-returns-in_default c = kind_rest (row (goal.at.returns-in_default c).Start) ((4 ∷ []) ∷ []) refl _ c.in_default.rest
+returns-in_default c = kind_rest (row (goal.at.returns-in_default c).Start) ((4 ∷ []) ∷ []) refl _ c.in_default.in_default-own.rest
