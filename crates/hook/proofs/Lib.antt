@@ -1,4 +1,2 @@
 pub mod CodeLaws
 pub mod KernelLaws
-pub mod Lending
-pub mod MonitorFields

@@ -1,6 +1,6 @@
 // The functions for C on a monitor's arrays: answers as codes, a query's answer as two numbers.
 ghost use Rattle.tracker.specs.Replies.{reply_of};
-ghost use Rattle.decision.specs.View.{monitor_before, monitor_after};
+ghost use Rattle.decision.specs.View.{monitor, monitor_before, monitor_after};
 ghost use Rattle.decision.specs.Answers.{AnswersRecord, AnswersCall};
 ghost use Rattle.decision.specs.Logs.{Coded};
 ghost use Rattle.hook.specs.Codes.{Given, AnswersLogGiven, ItemsGiven, HoldersGiven};
@@ -30,7 +30,7 @@ pub fn call_lent(
     fields: &[u8; 129],
     q: Call,
 ) -> u32
-    ensures { Coded (AnswersCall (monitor_before words descriptors names sets fields) q.kind q.process q.a q.b q.c) result (monitor_after words descriptors names sets fields) }
+    ensures { Coded (AnswersCall (monitor words.old descriptors.old names.old sets.now fields.now) q.kind q.process q.a q.b q.c) result (monitor words.new descriptors.new names.new sets.now fields.now) }
 {
     call_code(words, descriptors, names, sets, fields, q)
 }
@@ -74,7 +74,7 @@ pub fn items_lent(
     c: u8,
     set: &mut u64,
 ) -> u8
-    ensures { ItemsGiven (monitor_before words descriptors names sets fields) c set.old result set.new }
+    ensures { ItemsGiven (monitor words.now descriptors.now names.now sets.now fields.now) c set.old result set.new }
 {
     let reply = items_in(words, c);
     give(reply, set)
@@ -90,7 +90,7 @@ pub fn holders_lent(
     out: &mut [u16],
     count: &mut u64,
 ) -> u8
-    ensures { HoldersGiven (monitor_before words descriptors names sets fields) i out.old count.old result out.new count.new }
+    ensures { HoldersGiven (monitor words.now descriptors.now names.now sets.now fields.now) i out.old count.old result out.new count.new }
 {
     let reply = holders_in(words, i, out);
     give(reply, count)

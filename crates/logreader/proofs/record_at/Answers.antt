@@ -2,7 +2,6 @@
 use native.Mathlib.Omega.{arith}
 use Rattle.logreader.proofs.PlaceLaws.{end_at, found_at}
 use Rattle.records.proofs.RecordLaws.{tail_fits}
-use borrow.Author.Rules.{rules}
 use Rattle.logreader.proofs.record_at.Goals as goal
 
 pub returns-then-log-at : goal.returns-then-log-at

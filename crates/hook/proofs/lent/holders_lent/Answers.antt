@@ -2,7 +2,6 @@
 use Rattle.decision.specs.View.{view}
 use Rattle.rules.specs.Stored.{rules_of}
 use Rattle.hook.proofs.CodeLaws.{given_by}
-use borrow.Author.Rules.{rules}
 use Rattle.hook.proofs.lent.holders_lent.Goals as goal
 
 pub returns : goal.returns
