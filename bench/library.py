@@ -11,7 +11,7 @@ from model import ROOT
 from model.limits import Kind
 from model.records import Rule, encode
 
-ARCHIVE = ROOT / "crates" / "hook" / "out" / "libhook.a"
+ARCHIVE = ROOT / "target" / "staticlib" / "libhook.a"
 SOURCE = ROOT / "bench" / "hookcost.c"
 BUILT = ROOT / "target" / "embed" / "hookcost"
 HOOK, IN_PLACE, NONE, COPY = b"h", b"p", b"n", b"c"

@@ -1,6 +1,6 @@
 /* Pomtvia: a data flow tracker for the system calls of a small box, for programs in C.
  *
- * Link it with libhook.a, which `rt lib` in crates/hook writes to crates/hook/out/. The functions are proved; their contracts are in
+ * Link it with libhook.a, which `tools/archive` writes to target/staticlib/. The functions are proved; their contracts are in
  * crates/hook/src/. What each promises is said here in words. Nothing is allocated and nothing is kept between calls: all state lies in
  * a `struct pomtvia_monitor` that the caller owns.
  *
