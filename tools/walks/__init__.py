@@ -1,1 +1,0 @@
-"""Proofs by a walk of a function's MIR, written from the source (tools/walk)."""
