@@ -1,9 +1,9 @@
 """Count the instructions of one call of each kind, and the stack.
 
-A call in place is the difference of two runs of target/bin/bench_calls under
+A call in place is the difference of two runs of crates/bench_calls/out/bench_calls under
 valgrind whose inputs differ in their last five bytes alone: the call that is
 measured, and a call of unknown kind. A call by value is the difference of a run
-of target/bin/test_calls with the call and one without it, where the call adds
+of crates/test_calls/out/test_calls with the call and one without it, where the call adds
 no item, since the program prints them all. Of the cases of a kind the one that
 costs most is reported.
 """
@@ -21,8 +21,8 @@ from model.limits import CONTAINERS, FILES, Refusal
 from model.records import Call, encode
 from model.tracker import State, Tracker
 
-IN_PLACE = ROOT / "target" / "bin" / "bench_calls"
-BY_VALUE = ROOT / "target" / "bin" / "test_calls"
+IN_PLACE = ROOT / "crates" / "bench_calls" / "out" / "bench_calls"
+BY_VALUE = ROOT / "crates" / "test_calls" / "out" / "test_calls"
 
 MOST_INSTRUCTIONS = 6000  # of any call in the worst state
 USUAL_INSTRUCTIONS = 1500  # of more than half of the kinds in the worst state

@@ -23,7 +23,7 @@ class Program(NamedTuple):
     path: Path
 
 
-PROVED = Program("program", ROOT / "target" / "bin" / "runlog")
+PROVED = Program("program", ROOT / "crates" / "runlog" / "out" / "runlog")
 BASELINE = Program("baseline", ROOT / "bench" / "baseline" / "target" / "baseline")
 
 # A record of unknown tag: it gets a line and changes nothing. The random logs begin with it, and so

@@ -1,4 +1,4 @@
-"""The proved log program, target/bin/runlog: found, built if need be, and run on a log."""
+"""The proved log program, crates/runlog/out/runlog: found, built if need be, and run on a log."""
 
 import os
 import shutil
@@ -12,8 +12,9 @@ from model.limits import LOG_LIMIT
 from model.logfiles import Say
 from model.logtext import counted, split_records
 
-PROGRAM = ROOT / "target" / "bin" / "runlog"
-BUILD = ["rt", "check", "runlog"]
+CRATE = ROOT / "crates" / "runlog"
+PROGRAM = CRATE / "out" / "runlog"
+BUILD = ["rt", "run"]  # in the crate's folder; it runs the program too, here on nothing
 SOURCES = ("src", "specs", "proofs")  # of a crate
 NO_PROGRAM = 3  # the exit status
 
@@ -36,14 +37,21 @@ def is_outdated(program: Path) -> bool:
 def build(say: Say) -> None:
     """Prove and build the program; what rt reports goes to standard error."""
     command = " ".join(BUILD)
-    say(f"building the program ({command}): its proofs are checked, which may take some minutes")
-    with subprocess.Popen(BUILD, cwd=ROOT, stdout=subprocess.PIPE, stderr=subprocess.STDOUT) as run:
+    where = f"{command} in crates/runlog"
+    say(f"building the program ({where}): its proofs are checked, which may take some minutes")
+    with subprocess.Popen(
+        BUILD,
+        cwd=CRATE,
+        stdin=subprocess.DEVNULL,
+        stdout=subprocess.PIPE,
+        stderr=subprocess.STDOUT,
+    ) as run:
         for line in run.stdout or []:
             if line.startswith(b"rt: ") or b"error" in line:
                 sys.stderr.write(line.decode(errors="replace"))
                 sys.stderr.flush()
     if run.returncode != 0 or not PROGRAM.is_file():
-        again = "correct what it reports (target/log/ has all of it) and run the command again"
+        again = f"correct what it reports ({where} says all of it) and run the command again"
         raise Failure(NO_PROGRAM, f"{command} ended with status {run.returncode}; {again}")
     os.utime(PROGRAM)  # rt leaves a program as it is if nothing in its sources differs
 

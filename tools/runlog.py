@@ -1,6 +1,6 @@
 """The command ./runlog: a log in, the program's answers out.
 
-The answers are those of the program, target/bin/runlog, in every case. The
+The answers are those of the program, crates/runlog/out/runlog, in every case. The
 model is used for the limits and the form of records only.
 """
 
@@ -211,7 +211,7 @@ def make_parser() -> Parser:
     parser.add_argument("file", metavar="FILE", nargs="?", help=file_help)
     add_form(parser)
     parser.add_argument("--show", action="store_true", help="print each record beside its answer")
-    program_help = "run this program, and build none; if not given: target/bin/runlog"
+    program_help = "run this program, and build none; if not given: crates/runlog/out/runlog"
     parser.add_argument("--program", metavar="PATH", help=program_help)
     return parser
 

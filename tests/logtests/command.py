@@ -31,7 +31,7 @@ RT = """#!/bin/sh
 echo "$*" >>"$CALLS"
 echo "rt: runlog is being proved"
 [ -z "$FAILS" ] || exit 1
-mkdir -p target/bin && cp "$STANDIN" target/bin/runlog
+mkdir -p out && cp "$STANDIN" out/runlog
 """
 
 
@@ -247,7 +247,7 @@ class Copy:
 
     def __init__(self, folder: Path) -> None:
         self.root = folder / "copy"
-        self.program = self.root / "target" / "bin" / "runlog"
+        self.program = self.root / "crates" / "runlog" / "out" / "runlog"
         self.calls = folder / "calls"
         self.bin = folder / "bin"
         self.root.mkdir()
@@ -283,7 +283,7 @@ def test_building(checks: Checks, program: Optional[str]) -> None:
         checks.equal("runlog, built first", built[:2], (0, RUN_B_OUTPUT))
         said = "building" in built.messages and "some minutes" in built.messages
         checks.true("runlog, built first: message", said, built.messages)
-        checks.equal("runlog, built first: rt", copy.called(), ["check runlog"] * 2)
+        checks.equal("runlog, built first: rt", copy.called(), ["run"] * 2)
         check_good(checks, "built already", copy.run(), RUN_B_OUTPUT)
         checks.equal("runlog, built already: rt", len(copy.called()), 2)
         os.utime(copy.program, (0, 0))

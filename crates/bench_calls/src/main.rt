@@ -2,7 +2,10 @@
 // and a line is written for each call, 0 or the refusal's number; at the end one more, the set of the containers that gained by the last call.
 #![tactic(auto)]
 
-use libc::{STDIN_FILENO, STDOUT_FILENO};
+ghost use Rattle.std.specs.Prelude.{◌≤◌, length};
+
+use itoa::Buffer;
+use std::io::Read;
 use tracker::calls::work;
 use tracker::{Call, Tracker};
 
@@ -10,12 +13,13 @@ use tracker::{Call, Tracker};
 const WIDE: u64 = 0x9000000000000000;
 
 // Writes a number on a line of its own.
-fn say(n: u64) {
-    io::print_decimal(STDOUT_FILENO, n);
-    io::write_all(STDOUT_FILENO, b"\n");
+fn say(rt: &impl Print, n: u64) {
+    let mut digits = Buffer::new();
+    let _ = rt.write_all(digits.format(n).as_bytes());
+    let _ = rt.write_all(b"\n");
 }
 
-fn run(calls: &[u8]) {
+fn run(rt: &impl Print, calls: &[u8]) {
     let mut gained = 0u64;
     let mut words = [0u64; 353];
     let mut descriptors = [Tracker::CLOSED; 512];
@@ -31,13 +35,27 @@ fn run(calls: &[u8]) {
         };
         let made = work(&mut words, &mut descriptors, &mut names, q);
         gained = made.gained;
-        say(made.refusal as u64);
+        say(rt, made.refusal as u64);
     }
-    say(gained | WIDE);
+    say(rt, gained | WIDE);
 }
 
-fn main() {
-    let mut input = io::large_buffer();
-    let n = io::read_full(STDIN_FILENO, &mut input);
-    run(&input[..n]);
+// Reads until `buffer` is full, the input ends or a read fails, and answers how many bytes it put at the front.
+fn read_full<R: Read>(input: &mut R, buffer: &mut [u8]) -> usize
+    ensures { result ≤ length buffer.new }
+{
+    let mut done = 0usize;
+    while done < buffer.len() {
+        match input.read(&mut buffer[done..]) {
+            Ok(n) if 0 < n => done += n,
+            _ => break,
+        }
+    }
+    done
+}
+
+fn main(rt: HostRuntime) {
+    let mut calls = [0u8; 65536];
+    let n = read_full(&mut rt.stdin(), &mut calls);
+    run(&rt, &calls[..n]);
 }

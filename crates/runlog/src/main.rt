@@ -5,13 +5,14 @@
 ghost use Rattle.std.specs.Prelude.{◌≡◌, ℕ, ◌≤◌, length, take};
 ghost use Rattle.flow.specs.Box.{log_limit, fresh};
 ghost use Rattle.flow.specs.Verdicts.{run_log};
-ghost use Rattle.flow.specs.Queries.{result};
+ghost use Rattle.flow.specs.Queries.{result as result_word};
 ghost use Rattle.tracker.specs.Replies.{reply_of};
 ghost use Rattle.decision.specs.Logs.{codes_of};
 ghost use Rattle.runlog.specs.Limits.{record_limit};
 
 use decision::Monitor;
-use libc::{STDERR_FILENO, STDIN_FILENO, STDOUT_FILENO};
+use itoa::Buffer;
+use std::io::Read;
 use tracker::queries::Reply;
 
 // Puts b at `at`, if there is room, and answers where the next byte goes.
@@ -34,9 +35,8 @@ fn put_text(out: &mut [u8], at: usize, text: &[u8]) -> usize {
 
 // Puts the decimal digits of n at `at`.
 fn put_number(out: &mut [u8], at: usize, n: u64) -> usize {
-    let mut digits = [0u8; 20];
-    let k = io::decimal(n, &mut digits);
-    put_text(out, at, &digits[..k])
+    let mut digits = Buffer::new();
+    put_text(out, at, digits.format(n).as_bytes())
 }
 
 // Puts a line of a word and one number.
@@ -92,45 +92,42 @@ fn put_answer(out: &mut [u8], at: usize, code: u32) -> usize {
 }
 
 // Writes a text, and answers whether all of it was written. If not it says so: a program has no exit status to tell it by.
-fn write(text: &[u8]) -> bool {
-    if io::write_all(STDOUT_FILENO, text) {
+fn write(rt: &(impl Print + Eprint), text: &[u8]) -> bool {
+    if rt.write_all(text).is_ok() {
         return true;
     }
-    io::write_all(
-        STDERR_FILENO,
-        b"runlog: standard output was not written whole: answers are lost\n",
-    );
+    let _ = rt.eprintln("runlog: standard output was not written whole: answers are lost");
     false
 }
 
 // Writes what stands in the buffer before `at`, and answers whether all of it was written.
-fn flush(out: &[u8], at: usize) -> bool {
+fn flush(rt: &(impl Print + Eprint), out: &[u8], at: usize) -> bool {
     if at <= out.len() {
-        return write(&out[..at]);
+        return write(rt, &out[..at]);
     }
     false
 }
 
 // Writes a line for each answer, as far as they can be written.
-fn print_answers(codes: &[u32]) {
-    let mut buffer = io::buffer();
+fn print_answers(rt: &(impl Print + Eprint), codes: &[u32]) {
+    let mut buffer = [0u8; 4096];
     let out: &mut [u8] = &mut buffer;
     let mut at = 0usize;
     for k in 0..codes.len() {
         at = put_answer(out, at, codes[k]);
         if 4000 < at {
-            if !flush(out, at) {
+            if !flush(rt, out, at) {
                 return;
             }
             at = 0;
         }
     }
-    flush(out, at);
+    flush(rt, out, at);
 }
 
 // The number of answers.
 fn number(reply: Reply) -> usize
-    ensures* { λ r. ⌜ ((n : ℕ) → reply_of reply ≡ result n → r ≡ n) ⌝ }
+    ensures { (n : ℕ) → reply_of reply ≡ result_word n → result ≡ n }
 {
     match reply {
         Reply::Result(n) => n as usize,
@@ -140,7 +137,7 @@ fn number(reply: Reply) -> usize
 
 // The answers to the records of a log on a fresh monitor, at the front of `codes`, and how many they are.
 fn answers(log: &[u8], codes: &mut [u32]) -> usize
-    ensures* { λ r. ⌜ (length log.now ≤ log_limit → record_limit ≤ length codes.old → take r codes.new ≡ codes_of (run_log fresh log.now).answers) ⌝ }
+    ensures { length log.now ≤ log_limit → record_limit ≤ length codes.old → take result codes.new ≡ codes_of (run_log fresh log.now).answers }
 {
     let m = Monitor::new();
     let ran = m.run(log, codes);
@@ -148,26 +145,41 @@ fn answers(log: &[u8], codes: &mut [u32]) -> usize
     number(reply)
 }
 
+// Reads until `buffer` is full, the input ends or a read fails, and answers how many bytes it put at the front.
+fn read_full<R: Read>(input: &mut R, buffer: &mut [u8]) -> usize
+    ensures { result ≤ length buffer.new }
+{
+    let mut done = 0usize;
+    while done < buffer.len() {
+        match input.read(&mut buffer[done..]) {
+            Ok(n) if 0 < n => done += n,
+            _ => break,
+        }
+    }
+    done
+}
+
 // Whether the input goes on after the 65,536 bytes that were read.
-fn goes_on(n: usize) -> bool {
+fn goes_on<R: Read>(input: &mut R, n: usize) -> bool {
     if n < 65536 {
         return false;
     }
     let mut more = [0u8; 1];
-    io::read_full(STDIN_FILENO, &mut more) != 0
+    read_full(input, &mut more) != 0
 }
 
-fn main() {
-    let mut input = io::large_buffer();
-    let n = io::read_full(STDIN_FILENO, &mut input);
-    if goes_on(n) {
-        write(b"log too long\n");
+fn main(rt: HostRuntime) {
+    let mut input = rt.stdin();
+    let mut log = [0u8; 65536];
+    let n = read_full(&mut input, &mut log);
+    if goes_on(&mut input, n) {
+        write(&rt, b"log too long\n");
         return;
     }
     // A log of 65,536 bytes has at most 21,846 records.
     let mut codes = [0u32; 21846];
-    let k = answers(&input[..n], &mut codes);
+    let k = answers(&log[..n], &mut codes);
     if k <= 21846 {
-        print_answers(&codes[..k]);
+        print_answers(&rt, &codes[..k]);
     }
 }
