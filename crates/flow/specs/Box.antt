@@ -145,7 +145,7 @@ unfoldable pub mapped_in : List ℕ → ℕ
 mapped_in [] = 0
 mapped_in (n ∷ row) = bit (ltb 0 n) + 2 * mapped_in row
 
--- 02, Paper 4: the containers that feed process p, while either count is above 0, and those that it feeds, while the two_way count is
+-- 02, Paper 4: the containers that feed process p, while either count is above 0, and those that it feeds, while the two-way count is
 unfoldable pub feeders_of : Tables → ℕ → ℕ
 feeders_of t p = mapped_in (row_of t to_read p) ∪ mapped_in (row_of t both_ways p)
 

@@ -112,7 +112,7 @@ FullExactly =
     (t : Tables) (q : Call) → first_that (take 6 (call_tests t (some q))) ≡ none → first_that (call_tests t (some q)) ≡ some 17 ↔ AtLimit t q
 
 -- 02, Paper 4: between a process p and a device, file or pipe c the link to p is there while either count is above 0, the link to c while the
--- two_way count is
+-- two-way count is
 unfoldable pub LinksByCounts : Type 0
 LinksByCounts =
     (t : Tables) (p c : ℕ) → p < process_count → is_target c ≡ true

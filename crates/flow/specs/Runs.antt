@@ -288,13 +288,13 @@ mapped_twice =
     (nested ++ call unmap 0 24 0 0 ++ call label 0 24 1 0 ++ call unmap 0 24 0 0 ++ call label 0 24 2 0 ++ call unmap 0 24 0 0)
     (gaining (0 ∷ 0 ∷ 0 ∷ 0 ∷ 0 ∷ 2 ∷ 0 ∷ 1 ∷ []) ++ refused 16 ∷ [])
     (holding 8 2 ∷ holding 24 6 ∷ [])
-    -- both sorts: the two_way unmap ends the way back only. Item 1 of the process does not come to 24, item 2 of 24 comes to the process. No
-    -- two_way mapping is left to unmap, and the one for reading is
+    -- both sorts: the two-way unmap ends the way back only. Item 1 of the process does not come to 24, item 2 of 24 comes to the process. No
+    -- two-way mapping is left to unmap, and the one for reading is
     ∷ check
     (two_sorts ++ call unmap 0 24 1 0 ++ call label 0 8 1 0 ++ call label 0 24 2 0 ++ call unmap 0 24 1 0 ++ call unmap 0 24 0 0 ++ call label 0 24 3 0)
     (gaining (0 ∷ 0 ∷ 0 ∷ 0 ∷ 0 ∷ 1 ∷ 2 ∷ []) ++ refused 16 ∷ allow 0 ∷ allow 1 ∷ [])
     (holding 8 6 ∷ holding 24 12 ∷ [])
-    -- the unmap for reading leaves both links, and no further mapping for reading: a two_way one is none
+    -- the unmap for reading leaves both links, and no further mapping for reading: a two-way one is none
     ∷ check
     (two_sorts ++ call unmap 0 24 0 0 ++ call label 0 8 1 0 ++ call label 0 24 2 0 ++ call unmap 0 24 0 0 ++ call unmap 0 24 2 0)
     (gaining (0 ∷ 0 ∷ 0 ∷ 0 ∷ 0 ∷ 2 ∷ 2 ∷ []) ++ refused 16 ∷ refused 5 ∷ [])

@@ -93,7 +93,7 @@ unfoldable pub fed_up_to : List ℕ → ℕ → ℕ
 fed_up_to words zero = 0
 fed_up_to words (suc n) = fed_up_to words n ∪ (maps_in words n ∩ ways_in words n)
 
--- an array that is lent to a function: what it holds at the call (`now x.entry`) and at the return (`now x.exit`)
+-- an array that is lent to a function by `&`: what it holds at the call (`x.entry.now`) and at the return (`x.exit.now`)
 abbrev pub Lent : Type 0
 Lent = Both (Bor (List ℕ)) (Bor (List ℕ))
 
