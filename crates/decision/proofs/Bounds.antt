@@ -15,7 +15,7 @@ use Rattle.flow.specs.Box.{Condition, Rule, Tables, State, no_tables, fresh, ite
 use Rattle.flow.specs.Links.{given, reach}
 use Rattle.flow.specs.MapBoth.{in_sequence}
 use Rattle.flow.specs.Calls.{Call, Flow, still, gift, arrival, exchange, copy, clear, Change, moved, ended, items_after, after}
-use Rattle.flow.specs.Records.{byte_at, tag_of, forbid_tag, separate_tag, stated_length, value_of, condition_of, number_from, set_in as setRead, rule_with, rule_in, reading, call_of}
+use Rattle.flow.specs.Records.{byte_at, tag_of, forbid_tag, separate_tag, stated_length, value_of, condition_of, number_from, set_in as set_read, rule_with, rule_in, reading, call_of}
 use Rattle.flow.specs.Verdicts.{Outcome, refuses, loads, allows, inhibits, modifies, outcome, with_rule, state_after}
 use Rattle.flow.specs.Contents.{Step, entry, memory, step_state, step_at, state_at}
 use Rattle.flow.proofs.Bools.{choice}
@@ -106,7 +106,7 @@ condition_fits tag i x h =
     choice (λ (c : Condition). (parts_of c).2 < 2 ^ 64) (eqb tag forbid_tag) _ _ (λ e. h) (λ e. choice (λ (c : Condition). (parts_of c).2 < 2 ^ 64) (eqb tag separate_tag) _ _ (λ f. h) (λ f. h))
 
 rule_fits : (tag : ℕ) (v : List ℕ) → Below 256 v → SetFits (rule_in tag v)
-unfolding rule_in rule_with byte_at setRead
+unfolding rule_in rule_with byte_at set_read
 rule_fits tag v h =
     choice SetFits (eqb tag separate_tag) _ _ (λ e. condition_fits tag _ _ (omega (arith, h 1)))
     (λ e. condition_fits tag _ _ (number_lt (take 8 (drop 1 v)) 0 0 (omega arith) (omega (arith, length-take 8 (drop 1 v))) (every_part (λ x. x < 256) 0 8 1 v (omega arith) h)))

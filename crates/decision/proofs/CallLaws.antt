@@ -16,7 +16,7 @@ use Rattle.flow.specs.Gained.{gained}
 use Rattle.flow.proofs.GainLaws.{gained_none}
 use Rattle.store.specs.declared.Plan.{Plan}
 use Rattle.sets.specs.Sets.{has, ◌∪◌}
-use Rattle.store.specs.Maps.{Maps, items_in, view as mapsOf, items_by, MakesItems}
+use Rattle.store.specs.Maps.{Maps, items_in, view as maps_of, items_by, MakesItems}
 use Rattle.store.proofs.Parts.{part_length}
 use Rattle.store.proofs.Writes.{sized_view}
 use Rattle.tracker.specs.declared.Call.{Call as Bytes}
@@ -45,7 +45,7 @@ pub number_none : (n : ℕ) (o : Option ℕ) → refusal_from n ≡ o → n ≡ 
 unfolding refusal_from
 number_none n o e z = sym e ∙ rw z refl
 
-pub passes : (w d n : List ℕ) (b : Bytes) (r : ℕ) → refusal_from r ≡ first_that (call_tests (mapsOf w d n).tables (call_in b)) → r ≡ 0 → Passes w d n b
+pub passes : (w d n : List ℕ) (b : Bytes) (r : ℕ) → refusal_from r ≡ first_that (call_tests (maps_of w d n).tables (call_in b)) → r ≡ 0 → Passes w d n b
 passes w d n b r e z = record { none_holds = number_none r _ e z }
 
 pub refused_call : (m : Monitor) (b : Bytes) (n : ℕ) → refusal_from n ≡ first_that (call_tests (maps m).tables (call_in b)) → (n ≡ 0 → ⊥)
@@ -59,8 +59,8 @@ module _ (m : Monitor) (b : Bytes) where
   planned = plan_at (maps m) b (kind_of b.kind)
 
   -- a kind that does not give
-  pub gives_nothing : length m.words ≡ 353 → gives_at (kind_of b.kind) ≡ false → (x d n : List ℕ) → mapsOf x d n ≡ finished (maps m) b → Gives m b 32 (monitor x d n m.sets m.fields) 0
-  unfolding mapsOf ◌∪◌
+  pub gives_nothing : length m.words ≡ 353 → gives_at (kind_of b.kind) ≡ false → (x d n : List ℕ) → maps_of x d n ≡ finished (maps m) b → Gives m b 32 (monitor x d n m.sets m.fields) 0
+  unfolding maps_of ◌∪◌
   gives_nothing long h x d n v =
       let e : planned ≡ nothing = quiet (maps m) b (kind_of b.kind) h in
       record {
@@ -91,8 +91,8 @@ module _ (m : Monitor) (b : Bytes) where
 
     -- none is: the plan is made as y, then the rest of the call
     pub gives_made : k ≡ count_of m.fields → (y : Plan) → y ≡ planned → (w : List ℕ) (g : ℕ) → MakesItems m.words y w g
-        → (x d n : List ℕ) → mapsOf x d n ≡ finished (mapsOf w m.descriptors m.names) b → Gives m b 32 (monitor x d n m.sets m.fields) g
-    unfolding given mapsOf
+        → (x d n : List ℕ) → maps_of x d n ≡ finished (maps_of w m.descriptors m.names) b → Gives m b 32 (monitor x d n m.sets m.fields) g
+    unfolding given maps_of
     gives_made h y q w g v x d n f =
         let z = gives_by_lem m.words m.descriptors m.names w b y g q v in
         record {
@@ -105,12 +105,12 @@ module _ (m : Monitor) (b : Bytes) where
         }
 
 -- a call that passes still does once its plan is made
-pub passes_made : (w d n : List ℕ) (b : Bytes) → Passes w d n b → (y : Plan) → y ≡ plan_at (mapsOf w d n) b (kind_of b.kind) → (x : List ℕ) (g : ℕ) → MakesItems w y x g → Passes x d n b
+pub passes_made : (w d n : List ℕ) (b : Bytes) → Passes w d n b → (y : Plan) → y ≡ plan_at (maps_of w d n) b (kind_of b.kind) → (x : List ℕ) (g : ℕ) → MakesItems w y x g → Passes x d n b
 passes_made w d n b h y q x g v = still_passes w d n x b h (gives_by_lem w d n x b y g q v).0
 
 -- what gains by a call is what gains by its plan
 by_plan : (m : Monitor) (plan : Plan) (t : State) → Foreseen (items_in m.words) t.items plan → gained (items_in m.words) (items_by (items_in m.words) plan) ≡ gained_from (view m) t
-unfolding view mapsOf
+unfolding view maps_of
 by_plan m plan t f = foreseen_gained (items_in m.words) t.items plan f
 
 -- a call that is not refused has a known kind
@@ -141,7 +141,7 @@ module _ (m : Monitor) (b : Bytes) (long : length m.words ≡ 353) (named : leng
   untested_call = ap (λ (o : Option Call). first_that (call_tests (maps m).tables o)) (sym asked_is) ∙ untested
 
   sees : Foreseen (items_in m.words) (after (view m) (change (view m).tables asked)).items (planned m b)
-  unfolding view after mapsOf
+  unfolding view after maps_of
   sees = foreseen (maps m) (part_length 1 64 m.words (omega arith)) (sized_view m.words _ _) named b asked asked_is untested
 
   same_rules : (after (view m) (change (view m).tables asked)).rules ≡ (view m).rules
@@ -150,7 +150,7 @@ module _ (m : Monitor) (b : Bytes) (long : length m.words ≡ 353) (named : leng
 
   -- no rule is broken
   changed_view : k ≡ 32 → (view w).rules ≡ (view m).rules → view w ≡ after (view m) (change (view m).tables asked)
-  unfolding view after maps_by mapsOf
+  unfolding view after maps_by maps_of
   changed_view z e =
       ap₂ (λ (s : Maps) (r : List Rule). record { tables = s.tables; items = s.items; rules = r })
       (g.made z ∙ finished_call (maps m) (part_length 1 64 m.words (omega arith)) (sized_view m.words _ _) named b untested ∙ ap (λ (o : Option Call). maps_by (maps m) o none) asked_is) e

@@ -12,7 +12,7 @@ use Rattle.flow.specs.Records.{a_rule}
 use Rattle.flow.specs.Refusals.{field_tests, rule_tests, tests_of}
 use Rattle.flow.specs.Verdicts.{with_rule}
 use Rattle.flow.proofs.TableLaws.{first_some, first_none}
-use Rattle.store.specs.Maps.{items_in, view as mapsOf}
+use Rattle.store.specs.Maps.{items_in, view as maps_of}
 use Rattle.rules.specs.declared.RuleFields.{RuleFields}
 use Rattle.rules.specs.Stored.{condition_from, rule_from, count_of, rules_of}
 use Rattle.rules.specs.Judging.{broken_in}
@@ -47,7 +47,7 @@ module _ (m : Monitor) (r : RuleFields) (n : ℕ) (e : refusal_from n ≡ first_
 
     module _ (l : k < 32) (b : Bool) (f : b ≡ broken_in (items_in m.words) (condition_from r)) where
       broken_is : broken (view m) (rule_from r) ≡ b
-      unfolding view mapsOf
+      unfolding view maps_of
       broken_is = sym (f ∙ broken_in_lem (view m) (rule_from r))
 
       room : leb 32 (length (view m).rules) ≡ false

@@ -16,7 +16,7 @@ use Rattle.flow.specs.Calls.{Call, after}
 use Rattle.flow.specs.Verdicts.{modifies, gained_from, diversion}
 use Rattle.flow.specs.Gained.{gained}
 use Rattle.store.specs.declared.Plan.{Plan}
-use Rattle.store.specs.Maps.{Maps, with_items, items_in, view as mapsOf, items_by, gifts, MakesItems}
+use Rattle.store.specs.Maps.{Maps, with_items, items_in, view as maps_of, items_by, gifts, MakesItems}
 use Rattle.tracker.specs.declared.Call.{Call as Bytes}
 use Rattle.tracker.specs.Rows.{call_in}
 use Rattle.tracker.specs.Plans.{giving}
@@ -89,14 +89,14 @@ module _ (m : Monitor) (b : Bytes) (q : Call) (e : call_in b ≡ some q) (k : �
           inhibited_as m q k (λ z. diversion_broken m b q e k (eqb n 1) y acts d use_is (not-false y h) _ (judged_some m plan _ same_rules sees j js t z))
 
       -- the monitor after the write to the substitute
-      moved : (w : List ℕ) → mapsOf w m.descriptors m.names ≡ with_items (maps m) (items_by (maps m).items plan)
+      moved : (w : List ℕ) → maps_of w m.descriptors m.names ≡ with_items (maps m) (items_by (maps m).items plan)
           → view (monitor w m.descriptors m.names m.sets m.fields) ≡ after (view m) (diversion (view m) q rule)
-      unfolding view after diversion mapsOf
+      unfolding view after diversion maps_of
       moved w v = ap (λ (s : Maps). record { tables = s.tables; items = s.items; rules = (view m).rules }) (v ∙ ap (with_items (maps m)) (sym items_are))
 
       -- those that gain by the plan gain by the write
       gained_are : (i : ℕ) → i ≡ gained (items_in m.words) (items_by (items_in m.words) plan) → i ≡ gained_from (view m) (after (view m) (diversion (view m) q rule))
-      unfolding view mapsOf
+      unfolding view maps_of
       gained_are i d = d ∙ ap (gained (items_in m.words)) (sym items_are)
 
       pub stop_diverts : j ≡ count_of m.fields → (w : List ℕ) (i : ℕ) → MakesItems m.words (gifts plan) w i

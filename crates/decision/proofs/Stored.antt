@@ -19,7 +19,7 @@ use Rattle.flow.specs.Kept.{well_formed, all_well_formed}
 use Rattle.flow.proofs.Bools.{and_l, and_r, by}
 use Rattle.flow.proofs.TableLaws.{table_at, table_length, none_is, AllNone, all_none, untrue}
 use Rattle.flow.proofs.Keeping.{Invariant}
-use Rattle.store.specs.Maps.{part, view as mapsOf}
+use Rattle.store.specs.Maps.{part, view as maps_of}
 use Rattle.store.proofs.Parts.{part_here, part_there}
 use Rattle.store.proofs.Packing.{maps_from, ways_from, counts_from, reads_back, boths_back}
 use Rattle.rules.specs.Stored.{place, count_field, condition_at, action_at, substitute_at, rule_at, count_of, rules_of}
@@ -167,7 +167,7 @@ module _ (s : State) (i : Invariant s) (items-size : length s.items ≡ 64) wher
   items_held = part_there (s.tables.live ∷ []) _ 1 0 64 refl ∙ part_here s.items _ 64 items-size
 
   pub held_view : view (held s) ≡ s
-  unfolding view mapsOf held words_of
+  unfolding view maps_of held words_of
   held_view =
       λ k. record {
         tables =

@@ -21,7 +21,7 @@ use Rattle.flow.specs.Consequences.{KindsNumbered}
 use Rattle.flow.proofs.Bools.{or_elim, or_l, or_r, and_i, no_both, choice, chosen_l, chosen_r}
 use Rattle.flow.proofs.KindLaws.{kinds_numbered}
 use Rattle.store.specs.declared.Plan.{Plan}
-use Rattle.store.specs.Maps.{items_in, view as mapsOf, items_by}
+use Rattle.store.specs.Maps.{items_in, view as maps_of, items_by}
 use Rattle.store.proofs.Parts.{part_length}
 use Rattle.tracker.specs.declared.Call.{Call as Bytes}
 use Rattle.tracker.specs.Rows.{call_in}
@@ -54,7 +54,7 @@ gets_in plan v i h =
 -- ---- what the plan foresees is what judging relies on
 module _ (m : Monitor) (plan : Plan) (t : State) (rules : t.rules ≡ (view m).rules) (f : Foreseen (items_in m.words) t.items plan) where
   planned : plan.to < 2 ^ 64 → plan.to2 < 2 ^ 64 → Planned (view m) t plan
-  unfolding view mapsOf holds items_of
+  unfolding view maps_of holds items_of
   planned h k =
       record {
         rules = rules;
@@ -67,7 +67,7 @@ module _ (m : Monitor) (plan : Plan) (t : State) (rules : t.rules ≡ (view m).r
 
   module _ (k : ℕ) (j : Judged (items_in m.words) plan m.sets m.fields k) where
     lowest : Sound m → lowest_broken t ≡ found (count_of m.fields) (rule_at m.sets m.fields) k
-    unfolding view mapsOf Sound
+    unfolding view maps_of Sound
     lowest h =
         judged (view m) t plan m.sets m.fields h (planned j.small j.small2) refl
         ∙ ap (found (count_of m.fields) (rule_at m.sets m.fields)) (sym j.number)
@@ -159,7 +159,7 @@ module _ (m : Monitor) (b : Bytes) (q : Call) (e : call_in b ≡ some q) (k : �
 
   -- the items after the write to the substitute are those of its plan
   pub gift_items : length m.words ≡ 353 → (after (view m) (diversion (view m) q rule)).items ≡ items_by (items_in m.words) (giving (get_or (items_in m.words) (container_of b.process) 0) (reach (maps m).tables rule.substitute))
-  unfolding after diversion view mapsOf
+  unfolding after diversion view maps_of
   gift_items long =
       ap (λ (p : ℕ). items_after (maps m).tables (maps m).items (record { tables = (maps m).tables; flow = gift (container_of p) rule.substitute })) (call_fields b q e).1
       ∙ gift_made (maps m) (part_length 1 64 m.words (omega arith)) (container_of b.process) rule.substitute

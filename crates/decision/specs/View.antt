@@ -3,7 +3,7 @@ use Rattle.std.specs.Prelude.{List, ℕ}
 use Rattle.std.specs.Borrow.{MutBor}
 use denote.Triple.Both.{Both}
 use Rattle.flow.specs.Box.{State}
-use Rattle.store.specs.Maps.{Maps, view as mapsOf}
+use Rattle.store.specs.Maps.{Maps, view as maps_of}
 use Rattle.tracker.specs.View.{state}
 use Rattle.rules.specs.Stored.{rules_of}
 use Rattle.decision.specs.declared.Monitor.{Monitor}
@@ -24,7 +24,7 @@ abbrev pub monitor_after : Lent → Lent → Lent → Lent → Lent → Monitor
 monitor_after words descriptors names sets fields = monitor words.exit.now descriptors.exit.now names.exit.now sets.exit.now fields.exit.now
 
 abbrev pub maps : Monitor → Maps
-maps m = mapsOf m.words m.descriptors m.names
+maps m = maps_of m.words m.descriptors m.names
 
 unfoldable pub view : Monitor → State
 view m = state (maps m) (rules_of m.sets m.fields)

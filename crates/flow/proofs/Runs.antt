@@ -14,7 +14,7 @@ use Rattle.flow.specs.Calls.{rename, Call, kind_number, is_kind, with_live, with
 use Rattle.flow.specs.Rules.{breaks, broken, first_broken, lowest_broken, forbids}
 use Rattle.flow.specs.Records.{byte_at, tag_of, stated_length, record_length, value_of, cut_short, known_tag, tag_length, wrong_length, kinds, kind_of, call_by, call_from, call_in, condition_of, number_from, set_in, rule_with, rule_in, frame_tests, content_of, reading_by, reading, call_read, call_of, records_in, records_of}
 use Rattle.flow.specs.Refusals.{in_range, ranges, fields_fit, dead, taken, need_of, missing, same_descriptors, no_file, full, call_tests, items_fit, substitute_fits, same_items, field_tests, rule_tests}
-use Rattle.flow.specs.Verdicts.{allows, diversion, may_divert, breaks_none, stopped, verdict_by, verdict_at, verdict, outcome_of_call, outcome_of_rule, outcome_of as outcomeRead, outcome, answer_of, answer, with_rule, state_after, next, answer_all, run_log}
+use Rattle.flow.specs.Verdicts.{allows, diversion, may_divert, breaks_none, stopped, verdict_by, verdict_at, verdict, outcome_of_call, outcome_of_rule, outcome_of as outcome_read, outcome, answer_of, answer, with_rule, state_after, next, answer_all, run_log}
 use Rattle.flow.specs.Queries.{holders, holders_refusal, reply_by, holders_query, slice_by, holders_slice}
 use Rattle.flow.specs.Contents.{flowed, changed, contents_after, linked_to, step_contents, step_state, state_at, run_at, label_of, item_labelled}
 use Rattle.flow.specs.Runs.{outcome_of, call, shared, filed, renamed, spare, thirty_two, allowed, starred, Starred, further, Further, lacking, Lacking, total, remembered, copying, carried, chained, unmapped_once, Moves, replied_in, replied, falling, asked, HoldersAsked, two_sides, mapping_both, MappingBoth, nested, two_sorts, mapped_twice, MappedTwice, Filled, run_b, gaining, heard, spreading, Spreading}
@@ -42,11 +42,11 @@ Allowed = (outcome met (call rename 0 5 5 0) ≡ allows (change met.tables itsel
 
 -- in two parts, each within the steps that one proof may take; not one by one, since each would unfold the same definitions
 first_runs : (map outcome_of starred ≡ starred) × Allowed × Further × Lacking × HoldersAsked
-unfolding has only ◌∪◌ ◌∩◌ bit those_from those without table_from table some_below is_in first_that ◌⇒◌ is_device is_process is_file fresh items_of row_of mappings mapped_in feeders_of feeds descriptor name is_target linked meets through through_each closure reach given mapped used kind_number with_live with_descriptors with_names with_row with_rows raised lowered sort_of put_block block is_fed tables_by flow_by change moved ended items_after after holds breaks broken first_broken lowest_broken forbids byte_at tag_of stated_length record_length value_of cut_short known_tag tag_length wrong_length kinds kind_of call_by call_from call_in condition_of number_from set_in rule_with rule_in frame_tests content_of reading_by reading call_read call_of records_in records_of in_range ranges fields_fit is_live is_open is_bound dead taken need_of missing same_descriptors no_file full call_tests items_fit substitute_fits same_items field_tests rule_tests no_mappings no_tables is_none is_kind diversion may_divert breaks_none stopped verdict_by verdict_at verdict has_more gained members outcome_of_call outcome_of_rule outcomeRead outcome answer_of answer with_rule state_after next answer_all run_log flowed changed contents_after linked_to step_contents step_state state_at run_at label_of item_labelled outcome_of call shared filed renamed spare thirty_two allowed starred Starred total remembered copying carried chained unmapped_once Moves further Further lacking Lacking replied_in replied falling asked HoldersAsked holders holders_refusal reply_by holders_query slice_by holders_slice rising_from rising two_sides mapping_both MappingBoth nested two_sorts mapped_twice MappedTwice Opened run_b gaining heard spreading Spreading in_sequence at_once moved_at_once after_at_once verdict_at_once outcome_of_call_at_once outcome_of_at_once outcome_at_once state_after_at_once next_at_once torn Torn FormsDiffer
+unfolding has only ◌∪◌ ◌∩◌ bit those_from those without table_from table some_below is_in first_that ◌⇒◌ is_device is_process is_file fresh items_of row_of mappings mapped_in feeders_of feeds descriptor name is_target linked meets through through_each closure reach given mapped used kind_number with_live with_descriptors with_names with_row with_rows raised lowered sort_of put_block block is_fed tables_by flow_by change moved ended items_after after holds breaks broken first_broken lowest_broken forbids byte_at tag_of stated_length record_length value_of cut_short known_tag tag_length wrong_length kinds kind_of call_by call_from call_in condition_of number_from set_in rule_with rule_in frame_tests content_of reading_by reading call_read call_of records_in records_of in_range ranges fields_fit is_live is_open is_bound dead taken need_of missing same_descriptors no_file full call_tests items_fit substitute_fits same_items field_tests rule_tests no_mappings no_tables is_none is_kind diversion may_divert breaks_none stopped verdict_by verdict_at verdict has_more gained members outcome_of_call outcome_of_rule outcome_read outcome answer_of answer with_rule state_after next answer_all run_log flowed changed contents_after linked_to step_contents step_state state_at run_at label_of item_labelled outcome_of call shared filed renamed spare thirty_two allowed starred Starred total remembered copying carried chained unmapped_once Moves further Further lacking Lacking replied_in replied falling asked HoldersAsked holders holders_refusal reply_by holders_query slice_by holders_slice rising_from rising two_sides mapping_both MappingBoth nested two_sorts mapped_twice MappedTwice Opened run_b gaining heard spreading Spreading in_sequence at_once moved_at_once after_at_once verdict_at_once outcome_of_call_at_once outcome_of_at_once outcome_at_once state_after_at_once next_at_once torn Torn FormsDiffer
 first_runs = (refl, (refl, refl), refl, refl, refl)
 
 later_runs : MappingBoth × FormsDiffer × Torn × Moves × MappedTwice × Opened × Spreading
-unfolding has only ◌∪◌ ◌∩◌ bit those_from those without table_from table some_below is_in first_that ◌⇒◌ is_device is_process is_file fresh items_of row_of mappings mapped_in feeders_of feeds descriptor name is_target linked meets through through_each closure reach given mapped used kind_number with_live with_descriptors with_names with_row with_rows raised lowered sort_of put_block block is_fed tables_by flow_by change moved ended items_after after holds breaks broken first_broken lowest_broken forbids byte_at tag_of stated_length record_length value_of cut_short known_tag tag_length wrong_length kinds kind_of call_by call_from call_in condition_of number_from set_in rule_with rule_in frame_tests content_of reading_by reading call_read call_of records_in records_of in_range ranges fields_fit is_live is_open is_bound dead taken need_of missing same_descriptors no_file full call_tests items_fit substitute_fits same_items field_tests rule_tests no_mappings no_tables is_none is_kind diversion may_divert breaks_none stopped verdict_by verdict_at verdict has_more gained members outcome_of_call outcome_of_rule outcomeRead outcome answer_of answer with_rule state_after next answer_all run_log flowed changed contents_after linked_to step_contents step_state state_at run_at label_of item_labelled outcome_of call shared filed renamed spare thirty_two allowed starred Starred total remembered copying carried chained unmapped_once Moves further Further lacking Lacking replied_in replied falling asked HoldersAsked holders holders_refusal reply_by holders_query slice_by holders_slice rising_from rising two_sides mapping_both MappingBoth nested two_sorts mapped_twice MappedTwice Opened run_b gaining heard spreading Spreading in_sequence at_once moved_at_once after_at_once verdict_at_once outcome_of_call_at_once outcome_of_at_once outcome_at_once state_after_at_once next_at_once torn Torn FormsDiffer
+unfolding has only ◌∪◌ ◌∩◌ bit those_from those without table_from table some_below is_in first_that ◌⇒◌ is_device is_process is_file fresh items_of row_of mappings mapped_in feeders_of feeds descriptor name is_target linked meets through through_each closure reach given mapped used kind_number with_live with_descriptors with_names with_row with_rows raised lowered sort_of put_block block is_fed tables_by flow_by change moved ended items_after after holds breaks broken first_broken lowest_broken forbids byte_at tag_of stated_length record_length value_of cut_short known_tag tag_length wrong_length kinds kind_of call_by call_from call_in condition_of number_from set_in rule_with rule_in frame_tests content_of reading_by reading call_read call_of records_in records_of in_range ranges fields_fit is_live is_open is_bound dead taken need_of missing same_descriptors no_file full call_tests items_fit substitute_fits same_items field_tests rule_tests no_mappings no_tables is_none is_kind diversion may_divert breaks_none stopped verdict_by verdict_at verdict has_more gained members outcome_of_call outcome_of_rule outcome_read outcome answer_of answer with_rule state_after next answer_all run_log flowed changed contents_after linked_to step_contents step_state state_at run_at label_of item_labelled outcome_of call shared filed renamed spare thirty_two allowed starred Starred total remembered copying carried chained unmapped_once Moves further Further lacking Lacking replied_in replied falling asked HoldersAsked holders holders_refusal reply_by holders_query slice_by holders_slice rising_from rising two_sides mapping_both MappingBoth nested two_sorts mapped_twice MappedTwice Opened run_b gaining heard spreading Spreading in_sequence at_once moved_at_once after_at_once verdict_at_once outcome_of_call_at_once outcome_of_at_once outcome_at_once state_after_at_once next_at_once torn Torn FormsDiffer
 later_runs = (refl, (refl, refl, refl, refl), (λ rules. (refl, refl, refl)), (refl, refl, refl, refl, refl, refl, refl, refl, refl, refl, refl, refl), refl, (refl, refl, refl, refl, refl, refl, refl), refl)
 
 pub starred_runs : Starred

@@ -19,7 +19,7 @@ pub record Feeder (W : Type 0) : Type 0 where
   pub contents : W
 
 -- Contents of any type W; empty is 01's 0. Each function has the receiver's number, its old contents and the step's place in the list, and
--- gift: the giver's contents (for a label, the input); bothGifts: those of both givers; fork: the parent's;
+-- gift: the giver's contents (for a label, the input); both_gifts: those of both givers; fork: the parent's;
 -- memory: those of all that link to it.
 pub record Machine (W : Type 0) : Type 0 where
   pub empty : W

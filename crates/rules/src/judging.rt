@@ -3,7 +3,7 @@ ghost use Rattle.std.specs.Prelude.{ℕ, ◌%◌, ◌≡◌, ◌&&◌, ◌||◌,
 ghost use Rattle.sets.specs.Sets.{has as has_of};
 ghost use Rattle.flow.specs.Records.{condition_of};
 ghost use Rattle.store.specs.Maps.{items_in};
-ghost use Rattle.rules.specs.Judging.{gets as getsOf, only_if, Held, Met, meet as meet_of, breaks_anew, touches as touchesOf, anew_from, Judged};
+ghost use Rattle.rules.specs.Judging.{gets as gets_of, only_if, Held, Met, meet as meet_of, breaks_anew, touches as touches_of, anew_from, Judged};
 
 use crate::stored::{FIELDS_EACH, FORBID_TAG, ITEM_FIELD, SEPARATE_TAG, TAG_FIELD, count};
 use store::Plan;
@@ -32,7 +32,7 @@ fn only_if(b: bool, x: u64) -> u64
 
 // The containers that get item i.
 fn gets(plan: Plan, i: u64) -> u64
-    ensures { result ≡ getsOf plan i }
+    ensures { result ≡ gets_of plan i }
 {
     only_if(has(plan.given, i), plan.to) | only_if(has(plan.given2, i), plan.to2)
 }
@@ -97,7 +97,7 @@ fn joins(x: u64, first: u64, y: u64, second: u64, i: u64, j: u64) -> bool
 
 // Whether the condition speaks of an item of the set x. A number stands for its remainder by 64.
 fn touches(x: u64, tag: u8, item: u8, set: u64) -> bool
-    ensures { result ≡ touchesOf x (condition_of tag (item % 64) (set % 64)) }
+    ensures { result ≡ touches_of x (condition_of tag (item % 64) (set % 64)) }
 {
     if sets::member(x, item) {
         return true;

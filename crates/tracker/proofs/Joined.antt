@@ -37,7 +37,7 @@ use Rattle.store.proofs.Worklist.{cleared_none}
 use Rattle.tracker.specs.declared.Call.{Call}
 use Rattle.tracker.specs.Rows.{asked, call_in, tables_at, Passes}
 use Rattle.tracker.specs.Plans.{nothing, plan_of, plan_by, plan_at, gives_by, gives_at, free_set, emptied_by, emptied_at, giving, held_by, lost_by, lost_at, gone_of}
-use Rattle.tracker.specs.Worked.{given as givenBy, finished, Worked, done, maps_by, worked, Foreseen}
+use Rattle.tracker.specs.Worked.{given as given_by, finished, Worked, done, maps_by, worked, Foreseen}
 use Rattle.tracker.proofs.Arms.{kind_rest}
 use Rattle.tracker.proofs.Facts.{fit_process}
 use Rattle.tracker.proofs.Finding.{gone_none, gone_held}
@@ -157,16 +157,16 @@ quiet m q none h = refl
 quiet m q (some k) h = quiet_by m q.process q.a q.b q.c k h
 
 -- and leaves the maps as they are
-pub quiet_given : (m : Maps) → length m.items ≡ 64 → (q : Call) → gives_at (kind_of q.kind) ≡ false → m ≡ givenBy m q
-unfolding givenBy
+pub quiet_given : (m : Maps) → length m.items ≡ 64 → (q : Call) → gives_at (kind_of q.kind) ≡ false → m ≡ given_by m q
+unfolding given_by
 quiet_given m long q h = ap (with_items m) (sym (ap (items_by m.items) (quiet m q (kind_of q.kind) h) ∙ unmoved m long))
 
 -- a call that passes still does while the tables are the same, so once its gifts are made
 pub passes_on : (w d n x : List ℕ) (q : Call) → Passes w d n q → (view x d n).tables ≡ (view w d n).tables → Passes x d n q
 passes_on w d n x q h e = record { none_holds = ap (λ (t : Tables). first_that (call_tests t (call_in q))) e ∙ h.none_holds }
 
-pub still_passes : (w d n x : List ℕ) (q : Call) → Passes w d n q → view x d n ≡ givenBy (view w d n) q → Passes x d n q
-unfolding givenBy
+pub still_passes : (w d n x : List ℕ) (q : Call) → Passes w d n q → view x d n ≡ given_by (view w d n) q → Passes x d n q
+unfolding given_by
 still_passes w d n x q h e = passes_on w d n x q h (ap (λ (m : Maps). m.tables) e)
 
 -- ---- a call that can give: its plan is made
@@ -188,8 +188,8 @@ copies m q k c x e = rw (c, e, k) refl
 
 -- the maps once it is made, and those that gained
 pub gives_by_lem : (w d n x : List ℕ) (q : Call) (plan : Plan) (g : ℕ) → plan ≡ plan_at (view w d n) q (kind_of q.kind) → MakesItems w plan x g
-    → (view x d n ≡ givenBy (view w d n) q) × (g ≡ gained (view w d n).items (givenBy (view w d n) q).items)
-unfolding givenBy view
+    → (view x d n ≡ given_by (view w d n) q) × (g ≡ gained (view w d n).items (given_by (view w d n) q).items)
+unfolding given_by view
 gives_by_lem w d n x q plan g e h =
     (h.made d n ∙ ap (λ (p : Plan). with_items (view w d n) (items_by (view w d n).items p)) e, h.told ∙ ap (λ (p : Plan). gained (items_in w) (items_by (items_in w) p)) e)
 
@@ -294,8 +294,8 @@ module _ (m : Maps) (long : length m.items ≡ 64) (sized : Sized m.tables) (ln 
   finished_by (some k) e = ap (λ (l : List ℕ). record { tables = tables_of k; items = l }) (made k (accepted m.tables (asked q k) e))
 
   -- gifts and the rest together are the call
-  pub finished_call : first_that (call_tests m.tables (call_in q)) ≡ none → finished (givenBy m q) q ≡ maps_by m (call_in q) none
-  unfolding call_from givenBy finished
+  pub finished_call : first_that (call_tests m.tables (call_in q)) ≡ none → finished (given_by m q) q ≡ maps_by m (call_in q) none
+  unfolding call_from given_by finished
   finished_call e = finished_by (kind_of q.kind) e
 
   -- ---- what the plan foresees
@@ -410,12 +410,12 @@ module _ (items after : List ℕ) (p : Plan) (f : Foreseen items after p) where
       (λ e. let g = some_more _ _ e in more_some _ _ g.0 (f.less v g.0 h g.1) g.2))
 
 module _ (m : Maps) (long : length m.items ≡ 64) (sized : Sized m.tables) (ln : length m.tables.names ≡ 128) (q : Call) (e : first_that (call_tests m.tables (call_in q)) ≡ none) where
-  told_by_lem : (o : Option Asked) → call_in q ≡ o → gained m.items (givenBy m q).items ≡ gained m.items (maps_by m o none).items
-  unfolding givenBy maps_by call_tests first_that
+  told_by_lem : (o : Option Asked) → call_in q ≡ o → gained m.items (given_by m q).items ≡ gained m.items (maps_by m o none).items
+  unfolding given_by maps_by call_tests first_that
   told_by_lem none c = absurd (let z : first_that (call_tests m.tables none) ≡ none = rw c at e in let y : ◌≡◌ {A = ℕ} 0 1 = cc in let w : ⊥ = omega arith in w)
   told_by_lem (some x) c = foreseen_gained m.items _ _ (foreseen m long sized ln q x c e)
 
-  pub gained_call : gained m.items (givenBy m q).items ≡ gained m.items (maps_by m (call_in q) none).items
+  pub gained_call : gained m.items (given_by m q).items ≡ gained m.items (maps_by m (call_in q) none).items
   gained_call = told_by_lem (call_in q) refl
 
   -- where nothing is given

@@ -5,7 +5,7 @@ ghost use Rattle.flow.specs.Calls.{exchange};
 ghost use Rattle.flow.specs.Records.{kind_of};
 ghost use Rattle.store.specs.Maps.{view, maps_before};
 ghost use Rattle.tracker.specs.Rows.{Passes};
-ghost use Rattle.tracker.specs.Plans.{plan_of, plan_at, giving as givingTo, gives_at, GivesOnce};
+ghost use Rattle.tracker.specs.Plans.{plan_of, plan_at, giving as giving_to, gives_at, GivesOnce};
 
 use crate::Call;
 use store::Plan;
@@ -28,7 +28,7 @@ pub fn gives(kind: u8) -> bool
 
 // The items x given to the set r.
 pub fn giving(x: u64, r: u64) -> Plan
-    ensures { result ≡ givingTo x r }
+    ensures { result ≡ giving_to x r }
 {
     Plan {
         empty: 0,
