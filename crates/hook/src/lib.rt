@@ -18,7 +18,6 @@ use logreader::end_after;
 use tracker::Call;
 
 // Makes a fresh monitor without rules.
-#[unsafe(no_mangle)]
 pub extern "C" fn pomtvia_new(m: &mut Monitor)
     ensures { IsFresh m.new }
 {
@@ -32,7 +31,6 @@ pub extern "C" fn pomtvia_new(m: &mut Monitor)
 }
 
 // What a call of any five bytes gets.
-#[unsafe(no_mangle)]
 pub extern "C" fn pomtvia_call(m: &mut Monitor, kind: u8, p: u8, a: u8, b: u8, c: u8) -> u32
     ensures { Coded (AnswersCall m.old kind p a b c) result m.new }
 {
@@ -53,7 +51,6 @@ pub extern "C" fn pomtvia_call(m: &mut Monitor, kind: u8, p: u8, a: u8, b: u8, c
 }
 
 // What the record at the front of the bytes gets.
-#[unsafe(no_mangle)]
 pub extern "C" fn pomtvia_answer_in(m: &mut Monitor, bytes: &[u8]) -> u32
     ensures { Coded (AnswersRecord m.old bytes.now) result m.new }
 {
@@ -68,7 +65,6 @@ pub extern "C" fn pomtvia_answer_in(m: &mut Monitor, bytes: &[u8]) -> u32
 }
 
 // Answers the records of a log in order: the codes at the front of `codes`, their number in `count`. 13 where `codes` is too short.
-#[unsafe(no_mangle)]
 pub extern "C" fn pomtvia_run_in(
     m: &mut Monitor,
     log: &[u8],
@@ -90,7 +86,6 @@ pub extern "C" fn pomtvia_run_in(
 }
 
 // The items of container c, as a set.
-#[unsafe(no_mangle)]
 pub extern "C" fn pomtvia_items(m: &Monitor, c: u8, set: &mut u64) -> u8
     ensures { ItemsGiven m.now c set.old result set.new }
 {
@@ -106,7 +101,6 @@ pub extern "C" fn pomtvia_items(m: &Monitor, c: u8, set: &mut u64) -> u8
 }
 
 // The containers that hold item i, in rising number, at the front of `out`, and in `count` how many they are. 13 where `out` is too short.
-#[unsafe(no_mangle)]
 pub extern "C" fn pomtvia_holders_in(m: &Monitor, i: u8, out: &mut [u16], count: &mut u64) -> u8
     ensures { HoldersGiven m.now i out.old count.old result out.new count.new }
 {
@@ -123,7 +117,6 @@ pub extern "C" fn pomtvia_holders_in(m: &Monitor, i: u8, out: &mut [u16], count:
 }
 
 // The place after the record at a place of a log, and that place itself at the log's end.
-#[unsafe(no_mangle)]
 pub extern "C" fn pomtvia_next(log: &[u8], at: usize) -> usize
     ensures { result ≡ end_after log.now at }
 {
@@ -165,7 +158,6 @@ fn on_value(mut m: Monitor, kind: u8, p: u8, a: u8, b: u8, c: u8) -> Settled
 }
 
 // What a call gets, as its code. A refused or inhibited call leaves the monitor as it was.
-#[unsafe(no_mangle)]
 pub extern "C" fn pomtvia_on_call(m: &mut Monitor, kind: u8, p: u8, a: u8, b: u8, c: u8) -> u32
     ensures { Coded (AnswersCall m.old kind p a b c) result m.new }
 {
