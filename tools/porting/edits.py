@@ -7,14 +7,22 @@ usage: tools/porting/edits.py make ROOT MADE.json     before the kit's port.py a
        tools/porting/edits.py turn ROOT MADE.json TO  after they ran: writes into the checkout TO each edit whose text no longer does the
                                                       same, by what a variant and its file differ in, and prints what is left by hand
        tools/porting/edits.py look ROOT MADE.json TO  prints each edit of TO that does not make of TO's files what its variant has
+       tools/porting/edits.py names TO BASE EDIT..    writes into edits of TO (CRATE/NAME) the line 'names:', by what `rattle check
+                                                      --generated DIR --old-names` tells of the crate without and with the edit; BASE
+                                                      is what tests/wrong-programs/run --work BASE left
 
 The first comment line, the file names and the order of an edit stay.
 """
 
 import difflib
+import importlib.machinery
+import importlib.util
 import json
 import re
+import shutil
+import subprocess
 import sys
+import tempfile
 from pathlib import Path
 from typing import Dict, List, NamedTuple, Optional, Tuple
 
@@ -265,6 +273,85 @@ def turn(root: Path, listed: Path, to: Path, write: bool) -> int:
     return 1 if left else 0
 
 
+def told_names(run, base: Path, crate: str, files: Dict[str, str]) -> Dict[str, dict]:
+    """What the prover calls the places of each function of a crate with these files."""
+    with tempfile.TemporaryDirectory() as folder:
+        room = Path(folder)
+        for part in run.PARTS:
+            if (base / "crates" / crate / part).is_dir():
+                shutil.copytree(base / "crates" / crate / part, room / part)
+        for name, text in files.items():
+            (room / name).write_text(text)
+        words = run.check_words(base, crate)
+        words = [it for n, it in enumerate(words) if "--incremental" not in (it, words[n - 1]) and "--jobs" not in (it, words[n - 1])]
+        said = subprocess.run([*words, "--generated", f"{room}/made", "--old-names"], cwd=room, capture_output=True, text=True)
+        made_names = room / "made/names.json"
+        if not made_names.is_file():
+            raise SystemExit(said.stdout + said.stderr)
+        return json.loads(made_names.read_text())
+
+
+def pairs_of(one: dict, two: dict) -> Dict[str, str]:
+    """The names of a function's places and goals that differ, by the names that both had in the older prover."""
+    found: Dict[str, str] = {}
+
+    def by_place(names: dict) -> Dict[Tuple[str, str], str]:
+        told = {("need", old): new for old, new in names["needs"]}
+        for (old, _, field, *_), new in zip(names["places"], names["places_by_name"]):
+            told["place", old] = new
+            told["field", old] = field[1]
+        for ((old, new), *_) in names["loops"]:
+            told["loop", old] = new
+        return told
+
+    before, after = by_place(one), by_place(two)
+    for key, old in before.items():
+        new = after.get(key, old)
+        if new == old:
+            continue
+        found[old] = new
+        if key[0] == "field" and old.startswith("if-") and new.startswith("if-"):
+            found.update({f"{word}-{old[3:]}": f"{word}-{new[3:]}" for word in ("then", "else")})
+        if key[0] == "loop":
+            found.update({f"{word}-{old}": f"{word}-{new}" for word in ("invariant", "decreases")})
+    return found
+
+
+def write_names(to: Path, base: Path, edits: List[str]) -> int:
+    loader = importlib.machinery.SourceFileLoader("run", str(to / EDITS / "run"))
+    sys.path.insert(0, str(to / EDITS))
+    run = importlib.util.module_from_spec(importlib.util.spec_from_loader("run", loader))
+    sys.modules["run"] = run
+    loader.exec_module(run)
+    own: Dict[str, Dict[str, dict]] = {}
+    for name in edits:
+        crate, path = name.split("/")[0], to / EDITS / f"{name}.edit"
+        folder = to / "crates" / crate
+        files = run.edited(folder, run.changes_of(path))
+        steps = run.Crate(folder, run.uses_of()[crate]).function_of(files)
+        if not steps:
+            print(f"{name}: it changes not the body of one function")
+            continue
+        if crate not in own:
+            own[crate] = told_names(run, base, crate, {})
+        module = f"Rattle-{crate}-proofs.{'.'.join(steps)}.Lts"
+        told = told_names(run, base, crate, files)
+        if module not in told or module not in own[crate]:
+            print(f"{name}: no names of {module}")
+            continue
+        pairs = pairs_of(own[crate][module], told[module])
+        cited = "\n".join(file.read_text() for file in (folder / "proofs" / "/".join(steps)).glob("*.antt"))
+        words = set(re.findall(run.NAME, cited))
+        pairs = {old: new for old, new in pairs.items() if old in words}
+        same_row = [it[0] for it in own[crate][module]["places"]] == [it[0] for it in told[module]["places"]]
+        print(f"{name}: {pairs}{'' if same_row else ' (another row of places)'}")
+        lines = [line for line in path.read_text().splitlines() if not line.startswith("names:")]
+        if pairs:
+            lines.append("names: " + ", ".join(f"{old} {new}" for old, new in pairs.items()))
+        path.write_text("\n".join(lines) + "\n")
+    return 0
+
+
 def main() -> int:
     word, *paths = sys.argv[1:] or [""]
     if word == "make" and len(paths) == 2:
@@ -272,6 +359,8 @@ def main() -> int:
         return 0
     if word in ("turn", "look") and len(paths) == 3:
         return turn(Path(paths[0]), Path(paths[1]), Path(paths[2]), word == "turn")
+    if word == "names" and len(paths) > 2:
+        return write_names(Path(paths[0]).resolve(), Path(paths[1]).resolve(), paths[2:])
     print(__doc__, file=sys.stderr)
     return 2
 
