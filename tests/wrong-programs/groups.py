@@ -105,7 +105,7 @@ class Crate:
             if not self.owner(steps):
                 self.uses[steps] = set()
         for steps, file in files.items():
-            for cited in re.findall(rf"Rattle·{folder.name}·proofs\.proofs\.([\w.+-]+)", file.read_text()):
+            for cited in re.findall(rf"Rattle\.{folder.name}\.proofs\.([\w.+-]+)", file.read_text()):
                 owner, other = self.owner(steps), self.owner(tuple(cited.split(".")))
                 if other and other != owner:
                     self.uses[owner].add(other)
@@ -124,6 +124,12 @@ class Crate:
                 found.add(one)
                 todo += self.uses[one]
         return found
+
+    def function_of(self, edited: Dict[str, str]) -> Optional[Steps]:
+        """The function whose body is all that an edit changes."""
+        (file, after), *more = edited.items()
+        one = function_changed(self.texts[file], after, file) if not more and file in self.texts else None
+        return one.steps if one else None
 
     def body_of(self, edited: Dict[str, str]) -> Optional[Steps]:
         """The function whose body is all that an edit changes, where it may be tried beside others."""
@@ -145,7 +151,7 @@ class Crate:
 
     def merged(self, edits: List[Dict[str, str]]) -> Dict[str, str]:
         """The files that have the changed body of each edit."""
-        files: Dict[str, str] = {}
+        files = {name: text for edited in edits for name, text in edited.items() if name not in self.texts}
         for name, before in self.texts.items():
             at, text = 0, ""
             bodies = {}
@@ -160,8 +166,41 @@ class Crate:
         return files
 
 
-def own_refusals(said: List[str], proofs: str, crate: str, steps: Steps) -> List[str]:
-    """The lines that refuse a function, those of its proof files first."""
-    folder, line_of = f"{proofs}/{'/'.join(steps)}/", f"fn {crate}::{'::'.join(steps)}: "
-    errors = [line for line in said if line.startswith(folder) and ": error" in line]
-    return errors + [line for line in said if line.startswith(line_of) and "`search` does not close" in line]
+# A line that refuses something: an error, a goal that is not proved, or a function that lacks its answers.
+REFUSED = re.compile(r"^(\./|src/|specs/|proofs/)\S+: error|^note: \S+: it is not proved that|^fn \S+: (no proof: expected answers|could not tell)")
+# It only rests on what was refused elsewhere.
+FOLLOWS = re.compile(r"was not admitted|: error: \d+ declarations? that depends? on|no proof: it calls")
+# A name went missing, so no fact was tried.
+NAMES = re.compile(r"can be named from here|is not in scope|has no field|has no `|is no name|but its type has room for")
+# The edited text itself, or one that it does not go with.
+OWN_TEXT = re.compile(r"^(\./)?(src|specs)/\S+: error")
+
+
+def refusals(said: List[str]) -> List[str]:
+    """The lines that refuse something, but for those that only follow."""
+    return [line for line in said if REFUSED.match(line) and not FOLLOWS.search(line)]
+
+
+def refusal_of_a_fact(said: List[str]) -> Tuple[str, str]:
+    """The first line that refuses a fact, or else the first that does not show one."""
+    found = refusals(said)
+    own_text = next((line for line in found if OWN_TEXT.match(line)), "")
+    if own_text:
+        return "", own_text
+    nameless = [line for line in found if NAMES.search(line)]
+    # where a name went missing, an answer may be lost, and a goal that has none shows nothing
+    facts = [line for line in found if line not in nameless and (": error" in line or not nameless)]
+    return (facts or [""])[0], (nameless or [""])[0]
+
+
+def own_lines(said: List[str], crate: str, steps: Steps, files: Dict[str, str]) -> List[str]:
+    """The lines that refuse a function, in their order: of its proof files, of its goals by the lines of its text, and its own."""
+    folder, line_of = f"./proofs/{'/'.join(steps)}/", f"fn {crate}::{'::'.join(steps)}: "
+    ranges = {name: (text.count("\n", 0, one.start) + 1, text.count("\n", 0, one.end) + 1) for name, text in files.items() if name.startswith("src/") for one in functions_in(text, name) if one.steps == steps}
+    found = []
+    for line in refusals(said):
+        at = re.match(r"note: (\S+?):(\d+):\d+: ", line)
+        inside = at and at[1] in ranges and ranges[at[1]][0] <= int(at[2]) <= ranges[at[1]][1]
+        if inside or line.startswith((folder, line_of)):
+            found.append(line)
+    return found
