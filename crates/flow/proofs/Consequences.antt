@@ -1,5 +1,5 @@
 -- Short consequences of the definitions.
-use Prim.Native.Nat.{ℕ, zero, suc, ◌+◌, ◌≤◌, ◌<◌}
+use Prim.Native.Nat.{ℕ, zero, suc, ◌≤◌, ◌<◌}
 use native.Mathlib.Omega.{arith}
 use native.Mathlib.Nat.{le_refl, not-suc-le-zero, le_of_suc-le-suc}
 use mathlib.Core.Path.{◌≡◌, refl, sym, ap, ◌∙◌}
@@ -16,7 +16,7 @@ use Rattle.flow.specs.Calls.{Call, Change, change, after}
 use Rattle.flow.specs.Rules.{Numbered, lowest_broken}
 use Rattle.flow.specs.Records.{Reading, unreadable, a_call, a_rule, reading, call_read, call_of, records_of}
 use Rattle.flow.specs.Refusals.{call_tests, tests_of, refusal}
-use Rattle.flow.specs.Verdicts.{Outcome, refuses, loads, allows, inhibits, modifies, diversion, may_divert, breaks_none, gained_from, stopped, verdict_by, verdict_at, verdict, outcome_of_call, outcome_of_rule, outcome_of, outcome, refused, rule, allow, inhibit, answer_of, answer, state_after, next, answer_all, run_log}
+use Rattle.flow.specs.Verdicts.{Outcome, refuses, loads, allows, inhibits, modifies, diversion, may_divert, breaks_none, gained_from, stopped, verdict_by, verdict_at, verdict, outcome_of_call, outcome_of_rule, outcome_of, outcome, refused, allow, inhibit, answer_of, answer, state_after, next, answer_all, run_log}
 use Rattle.flow.specs.Contents.{Step, entry, memory, step_state, state_at}
 use Rattle.flow.specs.Consequences.{LinksByCounts, PassedBreaksNone, GainTold, VerdictExactly, NoGainAllowed, StoppedKeeps, OneAnswerEach, AnswersInOrder, LogIsSteps}
 use Rattle.flow.proofs.Bools.{by, no_both, choice}

@@ -8,7 +8,7 @@ use mathlib.Core.List.{List, [], ◌∷◌}
 use lib.Dec.{ltb}
 use lib.ListN.{get_or, length, set, replicate, length-set, length-replicate}
 use lib.Seq.{get_or-set_same, get_or-set_other, set_out}
-use borrow.Author.Tests.{ltb-true, lt-ltb, le-ltb}
+use borrow.Author.Tests.{ltb-true, lt-ltb}
 use Rattle.sets.specs.Sets.{has, bit}
 use Rattle.sets.proofs.Members.{made_zero, made_suc, none_has}
 use Rattle.flow.specs.Box.{is_target, no_mappings, mapped_in}

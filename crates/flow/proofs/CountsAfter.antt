@@ -4,7 +4,6 @@ use native.Mathlib.Omega.{arith}
 use mathlib.Core.Path.{◌≡◌, refl, sym, ap, subst, ◌∙◌}
 use mathlib.Core.Bool.{Bool, true, false, ◌&&◌, or_comm, true≢false, false≢true}
 use mathlib.Core.List.{List}
-use mathlib.Core.Option.{none, some}
 use lib.Dec.{eqb}
 use lib.ListN.{get_or, length, set}
 use lib.Seq.{get_or-set_same, get_or-set_other}
@@ -18,7 +17,7 @@ use Rattle.flow.proofs.Bools.{by, choices, and_l, and_r}
 use Rattle.flow.proofs.Counts.{none_counted}
 use Rattle.flow.proofs.Rows.{target_lt}
 use Rattle.flow.proofs.After.{Linking}
-use Rattle.flow.proofs.Mapping.{Sized, sized_of, row_other, row_same, rows_other, rows_read, rows_both, wide_of, child_row}
+use Rattle.flow.proofs.Mapping.{sized_of, row_other, row_same, rows_other, rows_read, rows_both, wide_of}
 use Rattle.flow.proofs.Accepted.{Accepted, accepted, fits_a, process_lt, opened}
 use Rattle.flow.proofs.Keeping.{state_kept}
 

@@ -1,11 +1,10 @@
 -- 02, Paper 4: a count rises to 255 and no further, and a child has it. By laws, not by computing 255 records.
-use Prim.Native.Nat.{ℕ, zero, suc, ◌+◌, ◌-◌, ◌≤◌, ◌<◌}
+use Prim.Native.Nat.{ℕ, zero, suc, ◌+◌, ◌-◌, ◌<◌}
 use native.Mathlib.Omega.{arith}
 use mathlib.Core.Path.{◌≡◌, refl, ap, ap₂, subst, ◌∙◌}
 use mathlib.Core.Bool.{Bool, true, false, ◌&&◌, ◌||◌}
 use mathlib.Core.List.{List, [], ◌∷◌, ◌++◌}
 use mathlib.Core.Option.{none, some}
-use lib.Dec.{leb}
 use lib.ListN.{get_or, length, set, replicate}
 use lib.Seq.{get_or-set_same}
 use borrow.Author.Tests.{lt-ltb, lt-leb, ne_eqb}
@@ -13,9 +12,9 @@ use Rattle.sets.specs.Sets.{has, only, members, ◌∪◌}
 use Rattle.sets.proofs.Members.{none_has}
 use Rattle.sets.proofs.Rising.{members_none}
 use Rattle.flow.specs.Lists.{◌⇒◌, first_that}
-use Rattle.flow.specs.Box.{container_of, is_device, is_file, is_target, to_read, both_ways, Tables, State, fresh, items_of, holds, is_live, row_of, mappings, descriptor, is_open}
+use Rattle.flow.specs.Box.{container_of, is_device, is_file, is_target, to_read, Tables, State, fresh, items_of, holds, is_live, row_of, mappings, descriptor, is_open}
 use Rattle.flow.specs.Links.{reach}
-use Rattle.flow.specs.Calls.{Kind, map_read, unmap, fork, start, create, kind_number, Call, is_kind, with_live, with_descriptors, with_row, with_rows, raised, lowered, sort_of, block, tables_by, flow_by, moved, Change, change, after}
+use Rattle.flow.specs.Calls.{Kind, map_read, unmap, fork, start, create, kind_number, Call, is_kind, with_live, with_descriptors, with_row, raised, lowered, sort_of, block, tables_by, flow_by, moved, Change, change, after}
 use Rattle.flow.specs.Rules.{first_broken, lowest_broken}
 use Rattle.flow.specs.Records.{a_call, byte_at, tag_of, stated_length, record_length, value_of, cut_short, known_tag, tag_length, wrong_length, kinds, kind_of, call_by, call_from, call_in, frame_tests, content_of, reading_by, reading}
 use Rattle.flow.specs.Refusals.{in_range, ranges, fields_fit, dead, taken, need_of, missing, same_descriptors, no_file, full, call_tests}
@@ -24,7 +23,7 @@ use Rattle.flow.specs.Contents.{entry, step_state}
 use Rattle.flow.specs.Runs.{call, filling, Filled}
 use Rattle.flow.proofs.Bools.{by, no_both, and_r, or_false_i}
 use Rattle.flow.proofs.Moves.{in_list, moved_in, source, source_lt, gift_holds, copy_holds}
-use Rattle.flow.proofs.After.{Linking, after_held}
+use Rattle.flow.proofs.After.{after_held}
 use Rattle.flow.proofs.Gaining.{adds_none}
 use Rattle.flow.proofs.Mapping.{sized_of, row_same, rows_other, wide_of, child_row}
 use Rattle.flow.proofs.Blocks.{put_same, put_other, block_length, block_at}

@@ -4,8 +4,7 @@ use native.Mathlib.Omega.{arith}
 use mathlib.Core.Path.{◌≡◌, refl, sym, ap, ◌∙◌}
 use mathlib.Core.Bool.{true}
 use mathlib.Core.List.{List}
-use lib.ListN.{get_or, length}
-use lib.Seq.{get_or-set_same}
+use lib.ListN.{get_or}
 use Rattle.sets.specs.Sets.{has}
 use Rattle.flow.specs.Box.{container_of, Tables, State, items_of, Sort, to_read, both_ways, row_of, mappings, feeders_of, feeds, descriptor}
 use Rattle.flow.specs.Links.{linked, used}

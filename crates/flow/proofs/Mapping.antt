@@ -1,12 +1,12 @@
 -- What the table of calls makes of the mappings: the rows, and the links that they stand for.
-use Prim.Native.Nat.{ℕ, suc, ◌-◌, ◌≤◌, ◌<◌}
+use Prim.Native.Nat.{ℕ, ◌-◌, ◌<◌}
 use native.Mathlib.Omega.{arith}
 use native.Mathlib.Decide.{ℕ_discrete}
 use mathlib.Core.Path.{◌≡◌, refl, sym, ap, ap₂, ◌∙◌}
-use mathlib.Core.Bool.{Bool, true, false, ◌||◌}
+use mathlib.Core.Bool.{true, ◌||◌}
 use mathlib.Core.List.{List, []}
 use lib.Dec.{ltb}
-use lib.ListN.{get_or, length, set, length-set}
+use lib.ListN.{length, length-set}
 use lib.Seq.{get_or-set_same, get_or-set_other}
 use borrow.Author.Tests.{lt-ltb}
 use Rattle.sets.specs.Sets.{has, ◌∪◌}
@@ -14,9 +14,9 @@ use Rattle.sets.proofs.Members.{union_has}
 use Rattle.flow.specs.Box.{container_of, is_target, Sort, to_read, both_ways, Tables, no_mappings, row_of, mappings, mapped_in, feeders_of, feeds}
 use Rattle.flow.specs.Links.{linked}
 use Rattle.flow.specs.Calls.{with_row, with_rows, raised, lowered}
-use Rattle.flow.proofs.Bools.{or_elim, or_l, or_r, by, no_both}
+use Rattle.flow.proofs.Bools.{or_elim, or_l, or_r, no_both}
 use Rattle.flow.proofs.Counts.{mapped_has, none_mapped, raised_in, lowered_in, raised_keeps, set_keeps, Counts, counts_set, counts_lowered}
-use Rattle.flow.proofs.Rows.{Rows, rows_set}
+use Rattle.flow.proofs.Rows.{rows_set}
 use Rattle.flow.proofs.Reach.{link_cases, link_in, link_out}
 use Rattle.flow.proofs.After.{Linking}
 

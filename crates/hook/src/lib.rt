@@ -1,6 +1,6 @@
-// What a kernel links: functions for C on a `struct pomtvia_monitor` of the caller's (embed/pomtvia.h). They lend its arrays where they lie
-// and copy nothing. Beside them the hook of document 01 (The form for each place): the kernel keeps one monitor and lends it for each call;
-// the covered step's result is stored back into it. An answer is its code.
+// What a kernel links: functions on a `struct pomtvia_monitor` of the caller's (embed/pomtvia.h), which `hook_c` exports to C. They lend its
+// arrays where they lie and copy nothing. Beside them the hook of document 01 (The form for each place): the kernel keeps one monitor and
+// lends it for each call; the covered step's result is stored back into it. An answer is its code.
 #![tactic(auto)]
 
 pub mod lent;
@@ -18,7 +18,7 @@ use logreader::end_after;
 use tracker::Call;
 
 // Makes a fresh monitor without rules.
-pub extern "C" fn pomtvia_new(m: &mut Monitor)
+pub fn pomtvia_new(m: &mut Monitor)
     ensures { IsFresh m.new }
 {
     renew(
@@ -31,7 +31,7 @@ pub extern "C" fn pomtvia_new(m: &mut Monitor)
 }
 
 // What a call of any five bytes gets.
-pub extern "C" fn pomtvia_call(m: &mut Monitor, kind: u8, p: u8, a: u8, b: u8, c: u8) -> u32
+pub fn pomtvia_call(m: &mut Monitor, kind: u8, p: u8, a: u8, b: u8, c: u8) -> u32
     ensures { Coded (AnswersCall m.old kind p a b c) result m.new }
 {
     call_lent(
@@ -51,7 +51,7 @@ pub extern "C" fn pomtvia_call(m: &mut Monitor, kind: u8, p: u8, a: u8, b: u8, c
 }
 
 // What the record at the front of the bytes gets.
-pub extern "C" fn pomtvia_answer_in(m: &mut Monitor, bytes: &[u8]) -> u32
+pub fn pomtvia_answer_in(m: &mut Monitor, bytes: &[u8]) -> u32
     ensures { Coded (AnswersRecord m.old bytes.now) result m.new }
 {
     answer_lent(
@@ -65,12 +65,7 @@ pub extern "C" fn pomtvia_answer_in(m: &mut Monitor, bytes: &[u8]) -> u32
 }
 
 // Answers the records of a log in order: the codes at the front of `codes`, their number in `count`. 13 where `codes` is too short.
-pub extern "C" fn pomtvia_run_in(
-    m: &mut Monitor,
-    log: &[u8],
-    codes: &mut [u32],
-    count: &mut u64,
-) -> u8
+pub fn pomtvia_run_in(m: &mut Monitor, log: &[u8], codes: &mut [u32], count: &mut u64) -> u8
     ensures { AnswersLogGiven m.old log.now codes.old count.old result m.new codes.new count.new }
 {
     run_lent(
@@ -86,7 +81,7 @@ pub extern "C" fn pomtvia_run_in(
 }
 
 // The items of container c, as a set.
-pub extern "C" fn pomtvia_items(m: &Monitor, c: u8, set: &mut u64) -> u8
+pub fn pomtvia_items(m: &Monitor, c: u8, set: &mut u64) -> u8
     ensures { ItemsGiven m.now c set.old result set.new }
 {
     items_lent(
@@ -101,7 +96,7 @@ pub extern "C" fn pomtvia_items(m: &Monitor, c: u8, set: &mut u64) -> u8
 }
 
 // The containers that hold item i, in rising number, at the front of `out`, and in `count` how many they are. 13 where `out` is too short.
-pub extern "C" fn pomtvia_holders_in(m: &Monitor, i: u8, out: &mut [u16], count: &mut u64) -> u8
+pub fn pomtvia_holders_in(m: &Monitor, i: u8, out: &mut [u16], count: &mut u64) -> u8
     ensures { HoldersGiven m.now i out.old count.old result out.new count.new }
 {
     holders_lent(
@@ -117,7 +112,7 @@ pub extern "C" fn pomtvia_holders_in(m: &Monitor, i: u8, out: &mut [u16], count:
 }
 
 // The place after the record at a place of a log, and that place itself at the log's end.
-pub extern "C" fn pomtvia_next(log: &[u8], at: usize) -> usize
+pub fn pomtvia_next(log: &[u8], at: usize) -> usize
     ensures { result ≡ end_after log.now at }
 {
     end_after(log, at)
@@ -158,7 +153,7 @@ fn on_value(mut m: Monitor, kind: u8, p: u8, a: u8, b: u8, c: u8) -> Settled
 }
 
 // What a call gets, as its code. A refused or inhibited call leaves the monitor as it was.
-pub extern "C" fn pomtvia_on_call(m: &mut Monitor, kind: u8, p: u8, a: u8, b: u8, c: u8) -> u32
+pub fn pomtvia_on_call(m: &mut Monitor, kind: u8, p: u8, a: u8, b: u8, c: u8) -> u32
     ensures { Coded (AnswersCall m.old kind p a b c) result m.new }
 {
     let s = on_value(*m, kind, p, a, b, c);

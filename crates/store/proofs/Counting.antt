@@ -1,5 +1,5 @@
 -- Mappings in the words: a row of counts by its sets and its bytes.
-use Prim.Native.Nat.{ℕ, zero, suc, ◌+◌, ◌-◌, ◌/◌, ◌%◌, ◌^◌, ◌≤◌, ◌<◌}
+use Prim.Native.Nat.{ℕ, zero, suc, ◌+◌, ◌/◌, ◌%◌, ◌^◌, ◌≤◌, ◌<◌}
 use native.Mathlib.Omega.{arith}
 use native.Mathlib.Decide.{ℕ_discrete}
 use mathlib.Core.Path.{◌≡◌, refl, sym, ap, ap₂, ◌∙◌}
@@ -12,7 +12,7 @@ use borrow.Author.Tests.{lt-ltb, ltb-false, eq-eqb, ne_eqb}
 use Rattle.sets.specs.Sets.{has, ◌∪◌, ◌∩◌}
 use Rattle.sets.proofs.Members.{union_has, inter_has, inter_lt, none_has, set_ext, union_lt}
 use Rattle.flow.specs.Box.{no_mappings, mapped_in}
-use Rattle.flow.proofs.Bools.{by, chosen_l, chosen_r}
+use Rattle.flow.proofs.Bools.{chosen_l, chosen_r}
 use Rattle.flow.proofs.TableLaws.{table_at, table_length}
 use Rattle.flow.proofs.Counts.{mapped_has, mapped_lt, none_counted, none_length}
 use Rattle.store.specs.Maps.{byte_of, count_by, row_in, maps_in, ways_in, reads_at, boths_at, read_row, both_row}

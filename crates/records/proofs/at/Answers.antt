@@ -2,7 +2,6 @@
 use mathlib.Core.Path.{refl, sym}
 use lib.ListN.{get_or-eq_default}
 use Rattle.flow.specs.Records.{byte_at}
-use borrow.Author.Rules.{rules}
 use Rattle.records.proofs.at.Goals as goal
 
 pub returns-then-i-bytes : goal.returns-then-i-bytes

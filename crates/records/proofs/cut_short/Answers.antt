@@ -1,6 +1,5 @@
 -- `cut_short` is the test of document 01.
 use Rattle.flow.specs.Records.{record_length, cut_short}
-use borrow.Author.Rules.{rules}
 use Rattle.records.proofs.cut_short.Goals as goal
 
 pub returns : goal.returns

@@ -3,7 +3,6 @@ use mathlib.Core.Path.{sym, ◌∙◌}
 use Rattle.flow.specs.Records.{cut_short, record_length}
 use Rattle.flow.proofs.Bools.{chosen_l, chosen_r}
 use Rattle.records.specs.Reading.{extent_of}
-use borrow.Author.Rules.{rules}
 use Rattle.records.proofs.extent.Goals as goal
 
 pub returns-then-cut_short : goal.returns-then-cut_short

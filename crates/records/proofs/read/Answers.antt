@@ -5,7 +5,6 @@ use Rattle.flow.specs.Lists.{first_that, refusal_from}
 use Rattle.flow.specs.Records.{tag_of, frame_tests}
 use Rattle.records.specs.Reading.{reading_of}
 use Rattle.records.proofs.Frames.{unread, call_read_lem, forbid_read, separate_read, confine_read}
-use borrow.Author.Rules.{rules}
 use Rattle.records.proofs.read.Goals as goal
 use Rattle.records.proofs.read.Goals.{Else-n-ne0}
 

@@ -4,7 +4,6 @@ use mathlib.Core.Bool.{true, false}
 use Rattle.flow.specs.Lists.{◌⇒◌, first_that, refusal_from}
 use Rattle.flow.specs.Records.{tag_of, cut_short}
 use Rattle.records.proofs.Frames.{framed, uncut}
-use borrow.Author.Rules.{rules}
 use Rattle.records.proofs.refusal.Goals as goal
 use Rattle.records.proofs.refusal.Goals.{After-stated_length-stated}
 

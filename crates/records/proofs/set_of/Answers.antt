@@ -2,7 +2,6 @@
 use native.Mathlib.Omega.{arith}
 use Rattle.flow.specs.Lists.{table_from}
 use Rattle.flow.specs.Records.{number_from}
-use borrow.Author.Rules.{rules}
 use Rattle.records.proofs.set_of.Goals as goal
 
 pub returns : goal.returns

@@ -1,6 +1,5 @@
 -- `stated_length` is the length in the header.
 use Rattle.flow.specs.Records.{stated_length}
-use borrow.Author.Rules.{rules}
 use Rattle.records.proofs.stated_length.Goals as goal
 
 pub returns : goal.returns

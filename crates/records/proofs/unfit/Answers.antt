@@ -1,10 +1,9 @@
 -- `unfit` is the first of the two tests of tag and length that holds.
 use mathlib.Core.Path.{refl, sym, ◌∙◌}
 use mathlib.Core.Bool.{true, false}
-use borrow.Author.Tests.{not-true, not-false, eq-eqb, ne_eqb}
+use borrow.Author.Tests.{eq-eqb, ne_eqb}
 use Rattle.flow.specs.Lists.{◌⇒◌, first_that, refusal_from}
 use Rattle.records.proofs.Frames.{measured}
-use borrow.Author.Rules.{rules}
 use Rattle.records.proofs.unfit.Goals as goal
 
 pub returns-then-not-known : goal.returns-then-not-known

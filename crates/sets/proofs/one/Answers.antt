@@ -2,7 +2,6 @@ use Prim.Native.Nat.{◌%◌}
 use native.Mathlib.Nat.{one-mul, mod-eq_of_lt}
 use native.Mathlib.Omega.{arith}
 use lib.Pow.{pow-lt}
-use borrow.Author.Rules.{rules}
 use Rattle.sets.specs.Sets.{only}
 use Rattle.sets.proofs.one.Goals as goal
 

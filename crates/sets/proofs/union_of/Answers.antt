@@ -1,7 +1,5 @@
 -- `union_of` joins the sets in order: before number i it has joined those before it.
-use Prim.Native.Nat.{◌-◌, ◌≤◌}
-use mathlib.Core.Path.{◌≡◌, refl, sym, ap, ◌∙◌}
-use lib.ListN.{length, take}
+use mathlib.Core.Path.{refl, sym, ap, ◌∙◌}
 use lib.Seq.{take_all}
 use borrow.Author.Rules.{rules}
 use Rattle.sets.specs.Sets.{◌∪◌, union_of}

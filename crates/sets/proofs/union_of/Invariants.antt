@@ -1,10 +1,7 @@
 use Prim.Native.Nat.{◌-◌, ◌≤◌}
-use mathlib.Core.Path.{◌≡◌, refl, sym, ap, ◌∙◌}
+use mathlib.Core.Path.{◌≡◌}
 use lib.ListN.{length, take}
-use lib.Seq.{take_all}
-use borrow.Author.Rules.{rules}
-use Rattle.sets.specs.Sets.{◌∪◌, union_of}
-use Rattle.sets.proofs.Unions.{union_of_more}
+use Rattle.sets.specs.Sets.{union_of}
 use Rattle.sets.proofs.union_of.Given as goal
 
 abbrev pub invariant-loop-i : goal.invariant-loop-i

@@ -1,4 +1,3 @@
-use borrow.Author.Rules.{rules}
 use Rattle.sets.specs.Sets.{◌∪◌}
 use Rattle.sets.proofs.with.Goals as goal
 

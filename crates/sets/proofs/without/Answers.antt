@@ -1,6 +1,5 @@
 use Prim.Native.Nat.{◌%◌}
 use native.Mathlib.Omega.{arith}
-use borrow.Author.Rules.{rules}
 use Rattle.sets.specs.Sets.{◌∩◌}
 use Rattle.sets.proofs.Members.{less_only}
 use Rattle.sets.proofs.without.Goals as goal

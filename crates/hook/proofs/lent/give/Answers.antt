@@ -1,5 +1,5 @@
 -- `give` tells a result from a refusal.
-use Rattle.std.proofs.Common.{refl, sym}
+use Rattle.std.proofs.Common.{refl}
 use Rattle.tracker.specs.Replies.{reply_of}
 use Rattle.hook.specs.Codes.{Given}
 use Rattle.hook.proofs.lent.give.Goals as goal

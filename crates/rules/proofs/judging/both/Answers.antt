@@ -1,6 +1,5 @@
 -- `both` asks for the second member where there is the first.
 use mathlib.Core.Path.{sym, ◌∙◌}
-use borrow.Author.Rules.{rules}
 use Rattle.rules.proofs.judging.both.Goals as goal
 
 pub returns-then-has : goal.returns-then-has

@@ -4,7 +4,6 @@ use mathlib.Core.Path.{sym, ap, ◌∙◌}
 use mir.Val.{Fits}
 use mir.Syntax.{w64}
 use borrow.Author.Rules.{rules}
-use borrow.Author.Tests.{not-true}
 use Rattle.sets.specs.Sets.{◌∪◌}
 use Rattle.sets.proofs.Members.{union_lt}
 use Rattle.rules.specs.Judging.{breaks_anew}

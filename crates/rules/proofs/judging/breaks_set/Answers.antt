@@ -1,5 +1,4 @@
 -- `breaks_set` goes by the tag.
-use borrow.Author.Rules.{rules}
 use Rattle.sets.specs.Sets.{◌∩◌}
 use Rattle.flow.specs.Links.{meets}
 use Rattle.rules.proofs.AnewLaws.{forbid_anew, confine_anew}

@@ -1,5 +1,4 @@
 -- `gets` joins the two shares.
-use borrow.Author.Rules.{rules}
 use Rattle.sets.specs.Sets.{◌∪◌}
 use Rattle.rules.specs.Judging.{gets, only_if}
 use Rattle.rules.proofs.judging.gets.Goals as goal

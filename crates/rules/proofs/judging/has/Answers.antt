@@ -2,7 +2,6 @@
 use mathlib.Core.Path.{refl, sym}
 use Rattle.sets.specs.Sets.{has}
 use Rattle.sets.proofs.Members.{past_has}
-use borrow.Author.Rules.{rules}
 use Rattle.rules.proofs.judging.has.Goals as goal
 
 pub returns-then-i-ge64 : goal.returns-then-i-ge64

@@ -1,10 +1,8 @@
 -- `held` gathers the items of the members of the set, the lowest first.
 use native.Mathlib.Omega.{arith}
-use borrow.Author.Rules.{rules}
-use Rattle.sets.specs.Sets.{◌∪◌, count}
+use Rattle.sets.specs.Sets.{◌∪◌}
 use Rattle.sets.proofs.Members.{turn_below, turn_fewer}
-use Rattle.store.specs.Maps.{items_in}
-use Rattle.rules.proofs.Worklist.{Gathering, gather_start, gather_end, gather_more}
+use Rattle.rules.proofs.Worklist.{gather_start, gather_end, gather_more}
 use Rattle.rules.proofs.judging.held.Goals as goal
 
 pub overflow_cast-v : goal.overflow_cast-v

@@ -1,6 +1,5 @@
 -- `joins` tries the two gifts; no item is past 63.
 use mathlib.Core.Path.{sym, ◌∙◌}
-use borrow.Author.Rules.{rules}
 use Rattle.rules.proofs.MetLaws.{past_first, past_second}
 use Rattle.rules.proofs.judging.joins.Goals as goal
 

@@ -1,7 +1,6 @@
 -- `judge` finds the first rule that breaks anew: up to the first of tag 12 hex that speaks of an item given, and then from it on.
-use Prim.Native.Nat.{ℕ, ◌-◌, ◌^◌, ◌≤◌, ◌<◌}
+use Prim.Native.Nat.{ℕ, ◌^◌, ◌<◌}
 use mathlib.Core.Path.{◌≡◌, refl, sym, ◌∙◌}
-use mathlib.Core.Logic.{⊎_elim}
 use native.Mathlib.Omega.{arith}
 use mir.Val.{Fits}
 use mir.Syntax.{w64}
@@ -9,9 +8,9 @@ use borrow.Author.Rules.{rules}
 use Rattle.sets.specs.Sets.{◌∪◌}
 use Rattle.sets.proofs.Members.{union_lt}
 use Rattle.store.specs.Maps.{items_in}
-use Rattle.rules.specs.Stored.{condition_at, count_of}
-use Rattle.rules.specs.Judging.{breaks_rule, anew_from, Judged}
-use Rattle.rules.proofs.Searching.{Seek, seek_hit, seek_miss, seek_end}
+use Rattle.rules.specs.Stored.{condition_at}
+use Rattle.rules.specs.Judging.{anew_from, Judged}
+use Rattle.rules.proofs.Searching.{seek_hit, seek_miss, seek_end}
 use Rattle.rules.proofs.StoredLaws.{count_le}
 use Rattle.rules.proofs.AnewLaws.{far, nothing_given, judges}
 use Rattle.rules.proofs.judging.judge.Goals as goal

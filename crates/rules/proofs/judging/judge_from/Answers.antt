@@ -1,12 +1,8 @@
 -- `judge_from` finds the first rule from `start` on that breaks anew.
-use Prim.Native.Nat.{◌-◌, ◌≤◌}
-use mathlib.Core.Path.{◌≡◌, refl, sym, ◌∙◌}
+use mathlib.Core.Path.{refl, sym, ◌∙◌}
 use native.Mathlib.Omega.{arith}
-use borrow.Author.Rules.{rules}
-use Rattle.store.specs.Maps.{items_in}
-use Rattle.rules.specs.Stored.{condition_at, count_of}
-use Rattle.rules.specs.Judging.{breaks_rule}
-use Rattle.rules.proofs.Searching.{Seek, seek_hit, seek_miss, seek_end}
+use Rattle.rules.specs.Stored.{condition_at}
+use Rattle.rules.proofs.Searching.{seek_hit, seek_miss, seek_end}
 use Rattle.rules.proofs.StoredLaws.{count_le}
 use Rattle.rules.proofs.judging.judge_from.Goals as goal
 

@@ -1,12 +1,9 @@
 use Prim.Native.Nat.{◌-◌, ◌≤◌}
-use mathlib.Core.Path.{◌≡◌, refl, sym, ◌∙◌}
-use native.Mathlib.Omega.{arith}
-use borrow.Author.Rules.{rules}
+use mathlib.Core.Path.{◌≡◌}
 use Rattle.store.specs.Maps.{items_in}
-use Rattle.rules.specs.Stored.{condition_at, count_of}
+use Rattle.rules.specs.Stored.{count_of}
 use Rattle.rules.specs.Judging.{breaks_rule}
-use Rattle.rules.proofs.Searching.{Seek, seek_hit, seek_miss, seek_end}
-use Rattle.rules.proofs.StoredLaws.{count_le}
+use Rattle.rules.proofs.Searching.{Seek}
 use Rattle.rules.proofs.judging.judge_from.Given as goal
 
 abbrev pub invariant-loop-k : goal.invariant-loop-k

@@ -1,6 +1,5 @@
 -- `meet` tries the two items in both orders.
 use mathlib.Core.Path.{sym, ◌∙◌}
-use borrow.Author.Rules.{rules}
 use Rattle.rules.specs.Judging.{meet}
 use Rattle.rules.proofs.judging.meet.Goals as goal
 

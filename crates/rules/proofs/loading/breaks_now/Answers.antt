@@ -1,15 +1,10 @@
 -- `breaks_now` asks the containers in order, until one breaks the rule.
-use Prim.Native.Nat.{ℕ, ◌-◌, ◌≤◌, ◌<◌}
-use mathlib.Core.Path.{◌≡◌, sym, ◌∙◌}
-use mathlib.Core.Bool.{false}
+use mathlib.Core.Path.{sym, ◌∙◌}
 use native.Mathlib.Omega.{arith}
-use lib.ListN.{get_or}
 use borrow.Author.Count.{below_none, below_more}
 use borrow.Author.Rules.{rules}
 use Rattle.flow.proofs.TableLaws.{some_of_lem, none_below}
-use Rattle.store.specs.Maps.{items_in}
-use Rattle.rules.specs.Stored.{condition_from}
-use Rattle.rules.specs.Judging.{breaks_with, broken_in}
+use Rattle.rules.specs.Judging.{broken_in}
 use Rattle.rules.proofs.loading.breaks_now.Goals as goal
 
 pub loop-c-init : goal.loop-c-init

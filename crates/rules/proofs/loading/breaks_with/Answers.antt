@@ -1,7 +1,6 @@
 -- `breaks_with` goes by the tag.
 use Rattle.rules.specs.Judging.{breaks_with}
 use Rattle.rules.proofs.ConditionLaws.{forbids_by, separates_by, confines_by}
-use borrow.Author.Rules.{rules}
 use Rattle.rules.proofs.loading.breaks_with.Goals as goal
 
 pub returns-then-rule-eq-SEPARATE_TAG : goal.returns-then-rule-eq-SEPARATE_TAG

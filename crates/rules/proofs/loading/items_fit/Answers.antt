@@ -1,6 +1,5 @@
 -- `items_fit` goes by the tag.
 use mathlib.Core.Path.{sym, ap}
-use borrow.Author.Rules.{rules}
 use Rattle.flow.specs.Refusals.{items_fit}
 use Rattle.rules.proofs.ConditionLaws.{separates_by, items_fit_by_set}
 use Rattle.rules.proofs.loading.items_fit.Goals as goal

@@ -2,7 +2,6 @@
 use mathlib.Core.Path.{sym, ap}
 use Rattle.flow.specs.Refusals.{same_items}
 use Rattle.rules.proofs.ConditionLaws.{separates_by, same_items_by_set}
-use borrow.Author.Rules.{rules}
 use Rattle.rules.proofs.loading.same_items.Goals as goal
 
 pub returns-then-rule-eq-SEPARATE_TAG : goal.returns-then-rule-eq-SEPARATE_TAG

@@ -3,7 +3,6 @@ use mathlib.Core.Path.{sym}
 use borrow.Author.Tests.{le-ltb, lt-ltb}
 use Rattle.flow.specs.Lists.{refusal_from, ◌⇒◌, first_that}
 use Rattle.flow.specs.Refusals.{field_tests}
-use borrow.Author.Rules.{rules}
 use Rattle.rules.proofs.loading.unfit.Goals as goal
 
 pub returns-then-same_items : goal.returns-then-same_items

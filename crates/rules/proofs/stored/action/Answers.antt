@@ -1,7 +1,6 @@
 -- `action` reads a field of rule k.
 use mathlib.Core.Path.{refl}
 use Rattle.rules.specs.Stored.{action_at}
-use borrow.Author.Rules.{rules}
 use Rattle.rules.proofs.stored.action.Goals as goal
 
 pub returns : goal.returns

@@ -1,7 +1,6 @@
 -- `count` is the number of rules, 32 at most.
 use mathlib.Core.Path.{sym}
 use Rattle.rules.proofs.StoredLaws.{count_all, count_full}
-use borrow.Author.Rules.{rules}
 use Rattle.rules.proofs.stored.count.Goals as goal
 
 pub returns-then-n-lt-RULE_COUNT : goal.returns-then-n-lt-RULE_COUNT

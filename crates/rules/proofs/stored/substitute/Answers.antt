@@ -1,7 +1,6 @@
 -- `substitute` reads a field of rule k.
 use mathlib.Core.Path.{refl}
 use Rattle.rules.specs.Stored.{substitute_at}
-use borrow.Author.Rules.{rules}
 use Rattle.rules.proofs.stored.substitute.Goals as goal
 
 pub returns : goal.returns

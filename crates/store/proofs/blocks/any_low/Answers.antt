@@ -1,7 +1,5 @@
 -- `any_low`: while the flag is 0, no file stands before entry i.
-use Prim.Native.Nat.{◌-◌, ◌≤◌}
-use mathlib.Core.Path.{◌≡◌, refl}
-use lib.ListN.{length, take}
+use mathlib.Core.Path.{refl}
 use lib.Seq.{take_all}
 use Rattle.store.specs.Maps.{files_in}
 use Rattle.store.proofs.Files.{none_low, flag_none}

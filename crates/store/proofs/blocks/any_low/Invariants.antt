@@ -1,10 +1,7 @@
 use Prim.Native.Nat.{◌-◌, ◌≤◌}
-use mathlib.Core.Path.{◌≡◌, refl}
+use mathlib.Core.Path.{◌≡◌}
 use lib.ListN.{length, take}
-use lib.Seq.{take_all}
 use Rattle.store.specs.Maps.{files_in}
-use Rattle.store.proofs.Files.{none_low, flag_none}
-use borrow.Author.Rules.{rules}
 use Rattle.store.proofs.blocks.any_low.Given as goal
 
 abbrev pub invariant-loop-i : goal.invariant-loop-i

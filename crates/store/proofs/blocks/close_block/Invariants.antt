@@ -1,11 +1,8 @@
-use mathlib.Core.Path.{◌≡◌, refl, ap, ◌∙◌}
-use mathlib.Core.List.{List}
-use Prim.Native.Nat.{ℕ, ◌+◌, ◌-◌, ◌*◌, ◌%◌, ◌≤◌, ◌<◌}
-use native.Mathlib.Omega.{arith}
-use lib.ListN.{length, set, replicate}
-use borrow.Author.Rules.{rules}
+use mathlib.Core.Path.{◌≡◌}
+use Prim.Native.Nat.{◌-◌, ◌≤◌}
+use lib.ListN.{replicate}
 use Rattle.flow.specs.Box.{closed}
-use Rattle.store.proofs.BlockLaws.{laid, laid_none, laid_more, laid_long, laid_all, closed_at}
+use Rattle.store.proofs.BlockLaws.{laid}
 use Rattle.store.proofs.blocks.close_block.Given as goal
 
 abbrev pub invariant-loop-d : goal.invariant-loop-d

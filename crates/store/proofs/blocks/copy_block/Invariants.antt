@@ -1,13 +1,7 @@
-use mathlib.Core.Path.{◌≡◌, refl, ap, ◌∙◌}
-use mathlib.Core.List.{List}
-use Prim.Native.Nat.{ℕ, ◌+◌, ◌-◌, ◌*◌, ◌%◌, ◌≤◌, ◌<◌}
-use native.Mathlib.Omega.{arith}
-use lib.ListN.{length, get_or, set}
-use borrow.Author.Rules.{rules}
-use Rattle.flow.specs.Calls.{put_block}
+use mathlib.Core.Path.{◌≡◌}
+use Prim.Native.Nat.{◌-◌, ◌≤◌}
 use Rattle.store.specs.Maps.{part}
-use Rattle.store.proofs.Parts.{part_length}
-use Rattle.store.proofs.BlockLaws.{laid, laid_none, laid_more, laid_long, laid_all, part_is, part_read}
+use Rattle.store.proofs.BlockLaws.{laid}
 use Rattle.store.proofs.blocks.copy_block.Given as goal
 
 abbrev pub invariant-loop-d : goal.invariant-loop-d

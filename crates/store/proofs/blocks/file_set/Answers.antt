@@ -4,7 +4,6 @@ use mathlib.Core.Path.{sym, ap, ◌∙◌}
 use Rattle.sets.specs.Sets.{◌∪◌, only}
 use Rattle.flow.specs.Box.{is_file}
 use Rattle.store.proofs.Files.{file_set_file, file_set_none, file_range}
-use borrow.Author.Rules.{rules}
 use Rattle.store.proofs.blocks.file_set.Goals as goal
 
 pub returns-then-e : goal.returns-then-e

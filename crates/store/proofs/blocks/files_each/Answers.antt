@@ -1,7 +1,5 @@
 -- `files_each`: before entry i the set has the files of the entries before it.
-use Prim.Native.Nat.{◌-◌, ◌≤◌}
-use mathlib.Core.Path.{◌≡◌, refl, ap, ◌∙◌}
-use lib.ListN.{length, take}
+use mathlib.Core.Path.{refl, ap, ◌∙◌}
 use lib.Seq.{take_all}
 use Rattle.sets.specs.Sets.{◌∪◌}
 use Rattle.store.specs.Maps.{files_in}

@@ -1,11 +1,7 @@
 use Prim.Native.Nat.{◌-◌, ◌≤◌}
-use mathlib.Core.Path.{◌≡◌, refl, ap, ◌∙◌}
+use mathlib.Core.Path.{◌≡◌}
 use lib.ListN.{length, take}
-use lib.Seq.{take_all}
-use Rattle.sets.specs.Sets.{◌∪◌}
 use Rattle.store.specs.Maps.{files_in}
-use Rattle.store.proofs.Files.{files_in_next}
-use borrow.Author.Rules.{rules}
 use Rattle.store.proofs.blocks.files_each.Given as goal
 
 abbrev pub invariant-loop-i : goal.invariant-loop-i

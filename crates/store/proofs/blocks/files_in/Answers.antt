@@ -1,6 +1,5 @@
 -- `files_in` goes through a table that has a container's number.
 use mathlib.Core.Path.{sym}
-use borrow.Author.Rules.{rules}
 use Rattle.store.proofs.blocks.files_in.Goals as goal
 
 pub returns : goal.returns

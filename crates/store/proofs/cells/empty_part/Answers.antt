@@ -1,6 +1,5 @@
 -- `empty_part` lends the items alone.
 use Rattle.store.proofs.Words.{items_cleared}
-use borrow.Author.Rules.{rules}
 use Rattle.store.proofs.cells.empty_part.Goals as goal
 
 pub returns : goal.returns

@@ -3,7 +3,6 @@ use mathlib.Core.Path.{refl}
 use Rattle.sets.specs.Sets.{◌∪◌}
 use Rattle.store.specs.Maps.{gifts}
 use Rattle.store.proofs.Gains.{gained_both}
-use borrow.Author.Rules.{rules}
 use Rattle.store.proofs.cells.make.Goals as goal
 
 pub returns : goal.returns

@@ -1,7 +1,6 @@
 -- `make_part` lends the items alone.
 use Rattle.store.specs.Maps.{part}
 use Rattle.store.proofs.Words.{items_made}
-use borrow.Author.Rules.{rules}
 use Rattle.store.proofs.cells.make_part.Goals as goal
 
 pub returns : goal.returns

@@ -7,7 +7,6 @@ use Rattle.store.specs.Maps.{part}
 use Rattle.store.proofs.Parts.{part_length}
 use Rattle.store.proofs.Words.{items_made}
 use Rattle.store.proofs.Gains.{replaced}
-use borrow.Author.Rules.{rules}
 use Rattle.store.proofs.cells.replace_part.Goals as goal
 
 pub returns : goal.returns

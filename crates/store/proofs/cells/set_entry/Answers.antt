@@ -1,7 +1,6 @@
 -- `set_entry` stores an entry of a table.
 use mathlib.Core.Path.{sym}
 use lib.Seq.{set_out}
-use borrow.Author.Rules.{rules}
 use Rattle.store.proofs.cells.set_entry.Goals as goal
 
 pub returns-else-i-table : goal.returns-else-i-table

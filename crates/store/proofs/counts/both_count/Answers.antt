@@ -2,12 +2,10 @@
 use native.Mathlib.Nat.{mod-eq_of_lt}
 use mathlib.Core.Path.{◌≡◌, sym, ap, ◌∙◌}
 use mathlib.Core.Bool.{Bool, true, false, ◌&&◌}
-use borrow.Author.Tests.{not-true, not-false}
 use Rattle.sets.specs.Sets.{has, ◌∩◌}
 use Rattle.sets.proofs.Members.{inter_has}
 use Rattle.store.proofs.Counting.{least_zero, least_more}
 use Rattle.store.proofs.Turning.{both_some, both_none}
-use borrow.Author.Rules.{rules}
 use Rattle.store.proofs.counts.both_count.Goals as goal
 use Rattle.store.proofs.counts.both_count.Goals.{After-member, Else-not-member}
 

@@ -4,7 +4,6 @@ use native.Mathlib.Nat.{add_assoc}
 use mathlib.Core.Path.{refl}
 use Rattle.store.specs.Maps.{maps_in, ways_in}
 use Rattle.store.specs.Pairs.{cells_in}
-use borrow.Author.Rules.{rules}
 use Rattle.store.proofs.counts.cells_of.Goals as goal
 
 pub returns : goal.returns

@@ -1,5 +1,5 @@
 -- `copy_counts` puts eight words in the place of eight others.
-use Prim.Native.Nat.{ℕ, ◌+◌, ◌-◌, ◌≤◌, ◌<◌}
+use Prim.Native.Nat.{ℕ, ◌+◌, ◌≤◌, ◌<◌}
 use native.Mathlib.Omega.{arith}
 use mathlib.Core.Path.{◌≡◌, sym, ap, ◌∙◌}
 use mathlib.Core.Logic.{◌⊎◌, inl, inr}
@@ -8,7 +8,6 @@ use lib.ListN.{length, get_or, set}
 use Rattle.store.specs.Maps.{part}
 use Rattle.store.proofs.Parts.{part_length}
 use Rattle.store.proofs.BlockLaws.{laid, laid_none, laid_more, laid_long, paste_read}
-use borrow.Author.Rules.{rules}
 use Rattle.store.proofs.counts.copy_counts.Goals as goal
 use Rattle.store.proofs.counts.copy_counts.Goals.{At-loop-i}
 

@@ -3,7 +3,7 @@ use Prim.Native.Nat.{ℕ, ◌<◌}
 use mathlib.Core.Path.{◌≡◌, sym, ap, ◌∙◌}
 use mathlib.Core.Bool.{true, ◌&&◌}
 use lib.Dec.{ltb}
-use borrow.Author.Tests.{not-true, not-false, ltb-true}
+use borrow.Author.Tests.{ltb-true}
 use Rattle.flow.specs.Calls.{sort_of}
 use Rattle.flow.proofs.Bools.{and_l, and_r}
 use Rattle.store.specs.declared.counts.Cells.{Cells}

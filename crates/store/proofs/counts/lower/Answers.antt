@@ -7,7 +7,6 @@ use lib.ListN.{set}
 use Rattle.flow.specs.Box.{row_of}
 use Rattle.flow.specs.Calls.{sort_of, with_row, lowered}
 use Rattle.store.specs.Maps.{view, with_tables}
-use borrow.Author.Rules.{rules}
 use Rattle.store.proofs.counts.lower.Goals as goal
 
 pub returns : goal.returns

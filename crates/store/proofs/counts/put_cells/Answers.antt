@@ -6,7 +6,6 @@ use mathlib.Core.Path.{◌≡◌, refl, ◌∙◌}
 use mathlib.Core.List.{List}
 use lib.ListN.{length, set, length-set}
 use Rattle.store.specs.Pairs.{stored}
-use borrow.Author.Rules.{rules}
 use Rattle.store.proofs.counts.put_cells.Goals as goal
 use Rattle.store.proofs.counts.put_cells.Goals.{Start}
 

@@ -3,12 +3,11 @@ use native.Mathlib.Nat.{mod-eq_of_lt}
 use mathlib.Core.Path.{◌≡◌, sym, ap, ◌∙◌}
 use mathlib.Core.Bool.{Bool, true, false, not, ◌&&◌}
 use lib.Dec.{eqb}
-use borrow.Author.Tests.{not-true, not-false, eqb-true, eq-eqb}
+use borrow.Author.Tests.{not-true, eqb-true, eq-eqb}
 use Rattle.sets.specs.Sets.{has}
 use Rattle.flow.proofs.Bools.{by, and_l, and_r, and_i, no_both}
 use Rattle.store.proofs.Counting.{least_zero, least_more}
 use Rattle.store.proofs.Turning.{read_both, read_alone, read_none}
-use borrow.Author.Rules.{rules}
 use Rattle.store.proofs.counts.read_count.Goals as goal
 use Rattle.store.proofs.counts.read_count.Goals.{After-member, After-member-2}
 

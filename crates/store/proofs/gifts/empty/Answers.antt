@@ -1,8 +1,7 @@
 -- `empty` empties every container of the set.
 use mathlib.Core.Path.{◌∙◌}
 use native.Mathlib.Omega.{arith}
-use Rattle.sets.specs.Sets.{count}
-use Rattle.store.proofs.Worklist.{turn_below, turn_less, Working, working_start, working_more, working_end, cleared_mapped}
+use Rattle.store.proofs.Worklist.{turn_below, turn_less, working_start, working_more, working_end, cleared_mapped}
 use borrow.Author.Rules.{rules}
 use Rattle.store.proofs.gifts.empty.Goals as goal
 

@@ -1,8 +1,5 @@
-use mathlib.Core.Path.{◌∙◌}
-use native.Mathlib.Omega.{arith}
 use Rattle.sets.specs.Sets.{count}
-use Rattle.store.proofs.Worklist.{turn_below, turn_less, Working, working_start, working_more, working_end, cleared_mapped}
-use borrow.Author.Rules.{rules}
+use Rattle.store.proofs.Worklist.{Working}
 use Rattle.store.proofs.gifts.empty.Given as goal
 
 abbrev pub invariant-loop-left : goal.invariant-loop-left

@@ -2,11 +2,9 @@
 use Prim.Native.Nat.{◌%◌}
 use mathlib.Core.Path.{◌≡◌, ap, ◌∙◌}
 use mathlib.Core.Bool.{not}
-use mathlib.Core.Logic.{⊎_elim}
 use native.Mathlib.Omega.{arith}
-use Rattle.sets.specs.Sets.{count, ◌∪◌}
-use Rattle.store.proofs.Worklist.{turn_below, turn_less, Working, working_start, working_more, working_end, given_mapped}
-use Rattle.store.proofs.Gains.{keep_if, Lacking, lacking_start, keep_drops, keep_stays, lacking_given, lacking_end, given_nothing, nothing_gained}
+use Rattle.store.proofs.Worklist.{turn_below, turn_less, working_start, working_more, working_end, given_mapped}
+use Rattle.store.proofs.Gains.{keep_if, lacking_start, keep_drops, keep_stays, lacking_given, lacking_end, given_nothing, nothing_gained}
 use borrow.Author.Rules.{rules}
 use Rattle.store.proofs.gifts.give.Goals as goal
 use Rattle.store.proofs.gifts.give.Goals.{Joined-not-give_at, then-not-give_at, else-not-give_at}

@@ -1,11 +1,6 @@
-use Prim.Native.Nat.{◌%◌}
-use mathlib.Core.Path.{◌≡◌, ◌∙◌}
-use mathlib.Core.Logic.{⊎_elim}
-use native.Mathlib.Omega.{arith}
 use Rattle.sets.specs.Sets.{count, ◌∪◌}
-use Rattle.store.proofs.Worklist.{turn_below, turn_less, Working, working_start, working_more, working_end, given_mapped}
-use Rattle.store.proofs.Gains.{keep_if, Lacking, lacking_start, keep_drops, keep_stays, lacking_given, lacking_end, given_nothing, nothing_gained}
-use borrow.Author.Rules.{rules}
+use Rattle.store.proofs.Worklist.{Working}
+use Rattle.store.proofs.Gains.{Lacking}
 use Rattle.store.proofs.gifts.give.Given as goal
 
 abbrev pub invariant-loop-left : goal.invariant-loop-left

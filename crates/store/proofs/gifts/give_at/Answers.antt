@@ -2,7 +2,6 @@
 use mathlib.Core.Path.{refl}
 use Rattle.sets.specs.Sets.{◌∪◌}
 use Rattle.store.proofs.Gains.{give_same, give_more}
-use borrow.Author.Rules.{rules}
 use Rattle.store.proofs.gifts.give_at.Goals as goal
 
 pub returns-then-all-old : goal.returns-then-all-old

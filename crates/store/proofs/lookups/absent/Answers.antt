@@ -1,11 +1,9 @@
 -- `absent` asks for one member after the other.
 use native.Mathlib.Omega.{arith}
 use mathlib.Core.Path.{refl}
-use mathlib.Core.Bool.{not}
-use Rattle.sets.specs.Sets.{count}
 use Rattle.sets.proofs.Members.{turn_below, turn_less}
 use Rattle.flow.specs.Lists.{is_in}
-use Rattle.store.proofs.Unused.{Sifting, sifting_start, sifting_more, sifting_end}
+use Rattle.store.proofs.Unused.{sifting_start, sifting_more, sifting_end}
 use borrow.Author.Rules.{rules}
 use Rattle.store.proofs.lookups.absent.Goals as goal
 

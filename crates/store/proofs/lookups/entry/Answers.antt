@@ -2,7 +2,6 @@
 use mathlib.Core.Path.{sym}
 use lib.ListN.{get_or-eq_default}
 use Rattle.store.proofs.Parts.{get_d_any}
-use borrow.Author.Rules.{rules}
 use Rattle.store.proofs.lookups.entry.Goals as goal
 
 pub returns-then-i-table : goal.returns-then-i-table

@@ -1,11 +1,9 @@
 -- `fed_set` joins what each process maps both ways.
-use Prim.Native.Nat.{◌-◌, ◌≤◌}
 use native.Mathlib.Omega.{arith}
 use native.Mathlib.Numerals.{add-one}
 use mathlib.Core.Path.{◌≡◌, refl, sym, ap, ◌∙◌}
 use Rattle.sets.specs.Sets.{◌∪◌, ◌∩◌}
 use Rattle.store.specs.Maps.{maps_in, ways_in, fed_up_to}
-use borrow.Author.Rules.{rules}
 use Rattle.store.proofs.lookups.fed_set.Goals as goal
 
 pub loop-p-preserved : goal.loop-p-preserved

@@ -1,10 +1,6 @@
 use Prim.Native.Nat.{◌-◌, ◌≤◌}
-use native.Mathlib.Omega.{arith}
-use native.Mathlib.Numerals.{add-one}
-use mathlib.Core.Path.{◌≡◌, refl, sym, ap, ◌∙◌}
-use Rattle.sets.specs.Sets.{◌∪◌, ◌∩◌}
-use Rattle.store.specs.Maps.{maps_in, ways_in, fed_up_to}
-use borrow.Author.Rules.{rules}
+use mathlib.Core.Path.{◌≡◌}
+use Rattle.store.specs.Maps.{fed_up_to}
 use Rattle.store.proofs.lookups.fed_set.Given as goal
 
 abbrev pub invariant-loop-p : goal.invariant-loop-p

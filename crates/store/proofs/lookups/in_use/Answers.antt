@@ -8,7 +8,6 @@ use Rattle.flow.specs.Box.{Tables, is_device}
 use Rattle.store.specs.Maps.{view}
 use Rattle.flow.proofs.Use.{used_device, used_number, used_held}
 use Rattle.store.proofs.Use.{mapped_is, member_of}
-use Rattle.store.proofs.Parts.{part_length}
 use borrow.Author.Rules.{rules}
 use Rattle.store.proofs.lookups.in_use.Goals as goal
 

@@ -1,5 +1,4 @@
 -- `is_bound` looks at a name.
-use borrow.Author.Rules.{rules}
 use Rattle.store.proofs.lookups.is_bound.Goals as goal
 
 pub returns : goal.returns

@@ -3,7 +3,6 @@ use Prim.Native.Nat.{ℕ, ◌%◌, ◌^◌, ◌<◌}
 use mathlib.Core.Path.{◌≡◌, sym, ap, ◌∙◌}
 use mathlib.Core.Bool.{Bool, false, ◌&&◌}
 use lib.Dec.{ltb}
-use borrow.Author.Tests.{not-true}
 use Rattle.sets.specs.Sets.{has}
 use Rattle.store.proofs.Use.{fed_is, unfed, member_of}
 use borrow.Author.Rules.{rules}

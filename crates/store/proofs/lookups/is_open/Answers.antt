@@ -1,5 +1,4 @@
 -- `is_open` looks at a descriptor.
-use borrow.Author.Rules.{rules}
 use Rattle.store.proofs.lookups.is_open.Goals as goal
 
 pub returns : goal.returns

@@ -1,7 +1,6 @@
 -- `leads` is the test of document 01.
 use mathlib.Core.Path.{◌∙◌}
 use Rattle.store.proofs.Files.{targets_has}
-use borrow.Author.Rules.{rules}
 use Rattle.store.proofs.lookups.leads.Goals as goal
 
 pub returns : goal.returns

@@ -1,6 +1,5 @@
 -- `mapped` joins the sets.
 use Rattle.store.specs.Maps.{part}
-use borrow.Author.Rules.{rules}
 use Rattle.store.proofs.lookups.mapped.Goals as goal
 
 pub returns : goal.returns

@@ -4,7 +4,6 @@ use mathlib.Core.Path.{sym}
 use mathlib.Core.List.{List}
 use Rattle.store.specs.Maps.{maps_in}
 use Rattle.store.proofs.Words.{feeders_is, feeders_past}
-use borrow.Author.Rules.{rules}
 use Rattle.store.proofs.lookups.maps.Goals as goal
 
 pub returns-then-p-lt-PROCESSES : goal.returns-then-p-lt-PROCESSES

@@ -1,9 +1,6 @@
 -- `stands`: before entry i the flag says whether c stands before it.
-use Prim.Native.Nat.{◌-◌, ◌≤◌}
-use mathlib.Core.Path.{◌≡◌, refl}
-use lib.ListN.{length, take}
+use mathlib.Core.Path.{refl}
 use lib.Seq.{take_all}
-use mir.Val.{bool_byte}
 use borrow.Author.Rules.{rules}
 use Rattle.flow.specs.Lists.{is_in}
 use Rattle.store.proofs.Use.{is_in_byte, byte_test}

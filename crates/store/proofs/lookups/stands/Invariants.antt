@@ -1,11 +1,8 @@
 use Prim.Native.Nat.{◌-◌, ◌≤◌}
-use mathlib.Core.Path.{◌≡◌, refl}
+use mathlib.Core.Path.{◌≡◌}
 use lib.ListN.{length, take}
-use lib.Seq.{take_all}
 use mir.Val.{bool_byte}
-use borrow.Author.Rules.{rules}
 use Rattle.flow.specs.Lists.{is_in}
-use Rattle.store.proofs.Use.{is_in_byte, byte_test}
 use Rattle.store.proofs.lookups.stands.Given as goal
 
 abbrev pub invariant-loop-i : goal.invariant-loop-i

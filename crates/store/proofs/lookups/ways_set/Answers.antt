@@ -1,6 +1,5 @@
 -- `ways_set` joins the sets.
 use Rattle.store.specs.Maps.{part}
-use borrow.Author.Rules.{rules}
 use Rattle.store.proofs.lookups.ways_set.Goals as goal
 
 pub returns : goal.returns

@@ -1,7 +1,6 @@
 -- `with_absent` asks the table.
 use mathlib.Core.Path.{sym, ◌∙◌}
 use Rattle.flow.proofs.Bools.{chosen_l, chosen_r}
-use borrow.Author.Rules.{rules}
 use Rattle.store.proofs.lookups.with_absent.Goals as goal
 
 pub returns-then-stands : goal.returns-then-stands

@@ -5,7 +5,6 @@ use lib.ListN.{get_or}
 use Prim.Native.Nat.{ℕ}
 use Rattle.sets.specs.Sets.{◌∩◌}
 use Rattle.store.specs.Maps.{maps_in, ways_in}
-use borrow.Author.Rules.{rules}
 use Rattle.store.proofs.spread.fed_by.Goals as goal
 
 pub returns : goal.returns

@@ -1,12 +1,10 @@
 -- `first_fed` tries the processes left, the lowest first.
 use Prim.Native.Nat.{◌<◌}
 use native.Mathlib.Omega.{arith}
-use Rattle.sets.specs.Sets.{◌∩◌, count}
+use Rattle.sets.specs.Sets.{◌∩◌}
 use Rattle.sets.proofs.Members.{turn_less}
 use Rattle.flow.proofs.Meets.{meets_true, meets_false}
-use Rattle.store.specs.Search.{fed_from}
-use Rattle.store.proofs.Searching.{Seek, seek_start, seek_below, seek_hit, seek_miss, seek_end}
-use borrow.Author.Rules.{rules}
+use Rattle.store.proofs.Searching.{seek_start, seek_below, seek_hit, seek_miss, seek_end}
 use Rattle.store.proofs.spread.first_fed.Goals as goal
 use Rattle.store.proofs.spread.first_fed.Goals.{After-lowest-p}
 

@@ -3,7 +3,6 @@ use native.Mathlib.Omega.{arith}
 use Rattle.sets.specs.Sets.{◌∩◌, ◌∪◌}
 use Rattle.store.specs.Maps.{part}
 use Rattle.store.proofs.Searching.{within_both, own_below, next_own, next_none, next_fed}
-use borrow.Author.Rules.{rules}
 use Rattle.store.proofs.spread.next.Goals as goal
 
 pub overflow_cast-result : goal.overflow_cast-result

@@ -5,14 +5,13 @@ use mathlib.Core.Path.{◌≡◌, subst, ◌∙◌}
 use mathlib.Core.Bool.{true}
 use mathlib.Core.List.{List}
 use lib.ListN.{get_or}
-use Rattle.sets.specs.Sets.{has, count, ◌∪◌, ◌∩◌}
+use Rattle.sets.specs.Sets.{has, ◌∪◌, ◌∩◌}
 use Rattle.flow.proofs.TableLaws.{table_at}
 use Rattle.flow.specs.Box.{feeders_of, feeds}
 use Rattle.store.specs.Maps.{part, maps_in, ways_in}
 use Rattle.store.specs.Search.{comes_next}
 use Rattle.store.proofs.Words.{links_of, fed_rows, reach_view, ins_of, outs_of, outs_bound}
-use Rattle.store.proofs.Searching.{within_low, within_high, Search, search_start, search_over, next_lt, search_more, more_less}
-use borrow.Author.Rules.{rules}
+use Rattle.store.proofs.Searching.{within_low, within_high, search_start, search_over, next_lt, search_more, more_less}
 use Rattle.store.proofs.spread.search.Goals as goal
 use Rattle.store.proofs.spread.search.Goals.{At-loop-u, Else-p-eq-NONE}
 
