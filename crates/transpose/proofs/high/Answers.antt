@@ -1,5 +1,4 @@
 -- `high` puts an odd row of a round together.
-use borrow.Author.Rules.{rules}
 use Rattle.sets.specs.Sets.{◌∪◌, ◌∩◌}
 use Rattle.transpose.proofs.Words.{odd_word}
 use Rattle.transpose.proofs.high.Goals as goal

@@ -1,5 +1,4 @@
 -- `low` puts an even row of a round together.
-use borrow.Author.Rules.{rules}
 use Rattle.sets.specs.Sets.{◌∪◌, ◌∩◌}
 use Rattle.transpose.proofs.Words.{even_word}
 use Rattle.transpose.proofs.low.Goals as goal

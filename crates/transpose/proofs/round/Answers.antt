@@ -1,10 +1,10 @@
 -- `round` goes through the 32 pairs of rows.
-use Prim.Native.Nat.{◌-◌, ◌*◌, ◌≤◌}
+use Prim.Native.Nat.{◌*◌}
 use native.Mathlib.Omega.{arith}
 use mathlib.Core.Path.{◌≡◌}
 use lib.ListN.{length-set}
 use borrow.Author.Rules.{rules}
-use Rattle.transpose.proofs.Filling.{Filled, filled_none, filled_more, filled_all}
+use Rattle.transpose.proofs.Filling.{filled_none, filled_more, filled_all}
 use Rattle.transpose.proofs.round.Goals as goal
 
 pub bounds-cells-i-in-loop-i : goal.bounds-cells-i-in-loop-i

@@ -1,9 +1,5 @@
 use Prim.Native.Nat.{◌-◌, ◌*◌, ◌≤◌}
-use native.Mathlib.Omega.{arith}
-use mathlib.Core.Path.{◌≡◌}
-use lib.ListN.{length-set}
-use borrow.Author.Rules.{rules}
-use Rattle.transpose.proofs.Filling.{Filled, filled_none, filled_more, filled_all}
+use Rattle.transpose.proofs.Filling.{Filled}
 use Rattle.transpose.proofs.round.Given as goal
 
 abbrev pub invariant-loop-i : goal.invariant-loop-i
