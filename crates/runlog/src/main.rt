@@ -91,7 +91,7 @@ fn put_answer(out: &mut [u8], at: usize, code: u32) -> usize {
     put_line(out, next, b" ", gained)
 }
 
-// Writes a text, and answers whether all of it was written. If not it says so: a program has no exit status to tell it by.
+// Writes a text, and answers whether all of it was written. If not it says so on standard error; the exit status stays 0.
 fn write(rt: &(impl Print + Eprint), text: &[u8]) -> bool {
     if rt.write_all(text).is_ok() {
         return true;
