@@ -167,11 +167,11 @@ class Crate:
 
 
 # A line that refuses something: an error, a goal that is not proved, or a function that lacks its answers.
-REFUSED = re.compile(r"^(\./|src/|specs/|proofs/)\S+: error|^note: \S+: it is not proved that|^fn \S+: (no proof: expected answers|could not tell)")
+REFUSED = re.compile(r"^(\./|src/|specs/|proofs/)\S+: error|^note: \S+: it is not proved that|^fn \S+: no proof: expected answers")
 # It only rests on what was refused elsewhere.
 FOLLOWS = re.compile(r"was not admitted|: error: \d+ declarations? that depends? on|no proof: it calls")
-# A name went missing, so no fact was tried.
-NAMES = re.compile(r"can be named from here|is not in scope|has no field|has no `|is no name|but its type has room for")
+# A name went missing, or the prover came to a limit of its own, so no fact was tried.
+NAMES = re.compile(r"can be named from here|is not in scope|has no field|has no `|is no name|but its type has room for|ran out of")
 # The edited text itself, or one that it does not go with.
 OWN_TEXT = re.compile(r"^(\./)?(src|specs)/\S+: error")
 
