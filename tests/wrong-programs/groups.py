@@ -131,6 +131,16 @@ class Crate:
         one = function_changed(self.texts[file], after, file) if not more and file in self.texts else None
         return one.steps if one else None
 
+    def functions_of(self, edited: Dict[str, str]) -> List[Steps]:
+        """The functions that an edit changes."""
+        changed = []
+        for file, after in edited.items():
+            if file in self.texts:
+                now = {one.steps: after[one.start : one.end] for one in functions_in(after, file)}
+                before = self.texts[file]
+                changed += [one.steps for one in functions_in(before, file) if now.get(one.steps) != before[one.start : one.end]]
+        return changed
+
     def body_of(self, edited: Dict[str, str]) -> Optional[Steps]:
         """The function whose body is all that an edit changes, where it may be tried beside others."""
         (file, after), *more = edited.items()
@@ -182,15 +192,16 @@ def refusals(said: List[str]) -> List[str]:
 
 
 def refusal_of_a_fact(said: List[str]) -> Tuple[str, str]:
-    """The first line that refuses a fact, or else the first that does not show one."""
+    """The first line that refuses something, if it is of a fact, or else the line that does not show one."""
     found = refusals(said)
     own_text = next((line for line in found if OWN_TEXT.match(line)), "")
-    if own_text:
+    if own_text or not found:
         return "", own_text
     nameless = [line for line in found if NAMES.search(line)]
     # where a name went missing, an answer may be lost, and a goal that has none shows nothing
-    facts = [line for line in found if line not in nameless and (": error" in line or not nameless)]
-    return (facts or [""])[0], (nameless or [""])[0]
+    if found[0] not in nameless and (": error" in found[0] or not nameless):
+        return found[0], ""
+    return "", nameless[0]
 
 
 def own_lines(said: List[str], crate: str, steps: Steps, files: Dict[str, str]) -> List[str]:
