@@ -20,7 +20,8 @@ from tests.logtests.randomlogs import largest_calls, largest_log
 
 REPEATS = 401
 MODEL_REPEATS = 5
-MONITOR = ROOT / "crates" / "decision" / "src" / "lib.rt"  # where a Monitor is defined
+# Where a Monitor is defined, and each of its parts.
+STRUCTS = {name: ROOT / "crates" / crate / "src" / "lib.rt" for name, crate in (("Monitor", "decision"), ("Tracker", "tracker"), ("Rules", "rules"))}
 NUMBER_SIZES = {"bool": 1, "u8": 1, "u16": 2, "u32": 4, "u64": 8, "usize": 8}
 RUNLOG = ROOT / "crates" / "runlog" / "src" / "main.rt"
 EXECUTED = 4  # the flag of a section that is executed, SHF_EXECINSTR
@@ -138,16 +139,19 @@ def answers_array() -> int:
 # Sizes.
 
 
-def monitor_fields() -> List[str]:
-    """The types of the fields of a Monitor, as the source has them."""
-    found = re.search(r"struct Monitor \{(.*?)\}", MONITOR.read_text(), re.DOTALL)
+def fields_of(name: str) -> List[str]:
+    """The types of the fields of a struct, as the source has them."""
+    path = STRUCTS[name]
+    found = re.search(rf"struct {name} \{{(.*?)\}}", path.read_text(), re.DOTALL)
     if not found:
-        raise BadRun(f"no struct Monitor in {MONITOR.relative_to(ROOT)}")
+        raise BadRun(f"no struct {name} in {path.relative_to(ROOT)}")
     return re.findall(r"(?m)^\s*(?:pub )?\w+: (.+?),?$", found[1])
 
 
 def type_size(text: str) -> int:
-    """The bytes of a number or of an array."""
+    """The bytes of a number, of an array, or of a part: its fields, as a multiple of 8."""
+    if text in STRUCTS:
+        return -(-sum(map(type_size, fields_of(text))) // 8) * 8
     array = re.fullmatch(r"\[(.+); (\d+)\]", text)
     if array:
         return int(array[2]) * type_size(array[1])
@@ -157,8 +161,8 @@ def type_size(text: str) -> int:
 
 
 def monitor_size() -> int:
-    """The bytes of a Monitor: its fields, as a multiple of 8."""
-    return -(-sum(map(type_size, monitor_fields())) // 8) * 8
+    """The bytes of a Monitor."""
+    return type_size("Monitor")
 
 
 def baseline_size() -> int:

@@ -12,8 +12,9 @@ from typing import Dict, List, NamedTuple, Optional, Set, Tuple
 
 Steps = Tuple[str, ...]  # the modules that lead to a function or a proof file, and its name
 # The layout is that of rt fmt: a function starts a line, and its body's braces stand below the start.
-HEADER = re.compile(r'^(?P<indent>|    )(?:pub )?(?:extern "C" )?fn (?P<name>\w+)', re.M)
-OWNER = re.compile(r"^(?:impl (\w+) \{|\})$", re.M)
+HEADER = re.compile(r'^(?P<indent>|    )(?:pub(?:\(crate\))? )?(?:extern "C" )?fn (?P<name>\w+)', re.M)
+# A block of methods, a trait's declarations, or a block's end. A trait is no owner: what it declares has no body.
+OWNER = re.compile(r"^(?:impl(?:<[^>]*>)? (?:(?P<trait>[\w:]+)(?:<(?P<of>[\w<>:', ]+)>)? for )?(?P<type>\w+)(?:<.*>)? \{|(?:pub )?trait .* \{|\})$", re.M)
 
 
 class Function(NamedTuple):
@@ -31,16 +32,25 @@ def modules_of(file: str) -> Steps:
     return steps[:-1] if steps[-1] in ("lib", "main", "mod") else steps
 
 
+def owner_of(text: str, at: int) -> str:
+    """The block that a method stands in, under the name that its proofs have: the type's, then the trait's with what it is of."""
+    last = [*OWNER.finditer(text, 0, at)][-1:]
+    if not last or not last[0]["type"]:
+        return ""
+    words = [last[0]["type"], (last[0]["trait"] or "").split("::")[-1], *re.findall(r"\w+", last[0]["of"] or "")]
+    return "".join(word[:1].upper() + word[1:] for word in words)
+
+
 def functions_in(text: str, file: str) -> List[Function]:
     """The functions of a file of src/, but for those that are not laid out as expected."""
     modules, found = modules_of(file), []
     for header in HEADER.finditer(text):
         indent, owner = header["indent"], modules
         if indent:
-            last = [line[1] for line in OWNER.finditer(text, 0, header.start())][-1:]
-            if not last or not last[0]:
+            block = owner_of(text, header.start())
+            if not block:
                 continue
-            owner = (*modules, last[0])
+            owner = (*modules, block)
         opened = re.compile(rf"^{indent}(?:\{{|(?:fn|pub|\)).* \{{)(?=\}}?$)", re.M).search(text, header.start())
         closed = opened and re.compile(rf"(?:^{indent}|\{{)\}}$", re.M).search(text, opened.end() - 1)
         if closed and not HEADER.search(text, header.end(), closed.start()):
@@ -64,7 +74,7 @@ def names_from(libraries: Set[str], text: str) -> Set[str]:
 
 
 # A call as rt fmt lays it out, with what stands before the name: a module or a type, or a dot.
-CALL = re.compile(r"(?:(\w+)::|(\.))?\b(\w+)\(")
+CALL = re.compile(r"(?:(\w+)::|(\.))?\b(\w+)(?:::<[^<>()]*>)?\(")
 
 
 class Crate:
@@ -79,6 +89,7 @@ class Crate:
         self.outside = {file: names_from({"std", *libraries} - modules, text) for file, text in self.texts.items()}
         # a function that was not found, a name for a name, or code in a contract: nothing is certain
         code = [re.sub(r"^ *//.*", "", text, flags=re.M) for text in self.texts.values()]
+        code = [re.sub(r"^(?:pub )?trait [^\n]* \{$.*?^\}$", "", text, flags=re.M | re.S) for text in code]
         found = sum(len(re.findall(r"\bfn \w", text)) for text in code)
         self.certain = found == len(self.uses) and not any(re.search(r"^use .* as |⟦", text, re.M) for text in code)
         for file, each in functions.items():

@@ -1,57 +1,40 @@
-// Runs calls on the arrays of a fresh tracker where they lie, without a copy: what bench/run measures. Standard input is as test_calls reads it,
-// and a line is written for each call, 0 or the refusal's number; at the end one more, the set of the containers that gained by the last call.
+// Runs calls on a tracker where it lies, without a copy: what bench/run measures. Standard input is as test_calls reads it, and a line is
+// written for each call, 0 or the refusal's number; at the end one more, the set of the containers that gained by the last call.
 #![tactic(auto)]
 
-ghost use Rattle.std.specs.Prelude.{◌≤◌, length};
-
-use itoa::Buffer;
-use std::io::Read;
-use tracker::calls::work;
+use console::{Line, read_full};
 use tracker::{Call, Tracker};
 
 // Containers 60 and 63. With them a set always has 20 digits, and its line costs the same.
 const WIDE: u64 = 0x9000000000000000;
 
-// Writes a number on a line of its own.
+// Writes a number on a line of its own: three lines, as test_calls has them, and no plainer as a function of console's.
 fn say(rt: &impl Print, n: u64) {
-    let mut digits = Buffer::new();
-    let _ = rt.write_all(digits.format(n).as_bytes());
-    let _ = rt.write_all(b"\n");
+    let mut line = Line::<21>::new();
+    line.push_number(n);
+    line.push("\n");
+    let _ = rt.write_all(line.bytes.as_slice());
 }
 
 fn run(rt: &impl Print, calls: &[u8]) {
     let mut gained = 0u64;
-    let mut words = [0u64; 353];
-    let mut descriptors = [Tracker::CLOSED; 512];
-    let mut names = [Tracker::CLOSED; 128];
-    for i in 0..calls.len() / 5 {
-        let at = 5 * i;
-        let q = Call {
-            kind: calls[at],
-            process: calls[at + 1],
-            a: calls[at + 2],
-            b: calls[at + 3],
-            c: calls[at + 4],
+    let mut t = Tracker::new();
+    let (fives, _rest) = calls.as_chunks::<5>();
+    for &[kind, process, a, b, c] in fives {
+        let (refusal, containers) = match t.work(Call {
+            kind,
+            process,
+            a,
+            b,
+            c,
+        }) {
+            Ok(containers) => (0, containers),
+            Err(refusal) => (u64::from(refusal.number()), 0),
         };
-        let made = work(&mut words, &mut descriptors, &mut names, q);
-        gained = made.gained;
-        say(rt, made.refusal as u64);
+        gained = containers;
+        say(rt, refusal);
     }
     say(rt, gained | WIDE);
-}
-
-// Reads until `buffer` is full, the input ends or a read fails, and answers how many bytes it put at the front.
-fn read_full<R: Read>(input: &mut R, buffer: &mut [u8]) -> usize
-    ensures { result ≤ length buffer.new }
-{
-    let mut done = 0usize;
-    while done < buffer.len() {
-        match input.read(&mut buffer[done..]) {
-            Ok(n) if 0 < n => done += n,
-            _ => break,
-        }
-    }
-    done
 }
 
 fn main(rt: HostRuntime) {

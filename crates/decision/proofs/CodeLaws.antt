@@ -2,31 +2,44 @@
 use Prim.Native.Nat.{ℕ, ◌+◌, ◌*◌, ◌/◌, ◌%◌, ◌^◌, ◌<◌}
 use native.Mathlib.Omega.{arith}
 use mathlib.Core.Path.{◌≡◌, refl, sym, ap, ap₂, ◌∙◌}
+use mathlib.Core.Logic.{◌↔◌}
+use mathlib.Core.Option.{some}
 use lib.ListN.{length}
 use Rattle.sets.specs.Sets.{members, without, lowest, count}
 use Rattle.sets.proofs.Members.{count_less, lowest_has}
 use Rattle.sets.proofs.Rising.{members_none, members_count, members_le}
 use Rattle.flow.specs.Verdicts.{Outcome, refuses, loads, allows, inhibits, modifies, gained_by, refused, inhibit, answer_of}
+use Rattle.terms.specs.declared.refusal.Refusal.{Refusal}
+use Rattle.terms.specs.Refusals.{number}
 use Rattle.decision.specs.declared.Answer.{Answer}
 use Rattle.decision.specs.declared.Answer.TheVariants.{Refused, Loaded, Allow, Inhibit, Modify}
-use Rattle.decision.specs.Answers.{word_of, gained_in}
+use Rattle.decision.specs.Answers.{word_of, gained_in, refusal_in}
 use Rattle.decision.specs.Logs.{code_of, word_by, word_from, InBytes, CodesTell}
+use Rattle.decision.proofs.Refusals.{refusal_by, refusal_of, Named}
 
 -- the answer to an outcome
 unfoldable pub answer_is : Outcome → Answer
-answer_is (refuses n) = Refused n
+answer_is (refuses n) = Refused (refusal_by n)
 answer_is (loads n r) = Loaded n
 answer_is (allows x g) = Allow g
 answer_is (inhibits n) = Inhibit n
 answer_is (modifies n c x g) = Modify n c g
 
-pub word_is : (o : Outcome) → word_of (answer_is o) ≡ answer_of o
-unfolding word_of answer_is answer_of
-word_is (refuses n) = refl
-word_is (loads n r) = refl
-word_is (allows x g) = refl
-word_is (inhibits n) = refl
-word_is (modifies n c x g) = refl
+-- an outcome refuses with the number of a refusal
+unfoldable pub NamedIn : Outcome → Type 0
+NamedIn (refuses n) = Named n
+NamedIn (loads n r) = Unit {0}
+NamedIn (allows x g) = Unit {0}
+NamedIn (inhibits n) = Unit {0}
+NamedIn (modifies n c x g) = Unit {0}
+
+pub word_is : (o : Outcome) → NamedIn o → word_of (answer_is o) ≡ answer_of o
+unfolding word_of answer_is answer_of NamedIn Named
+word_is (refuses n) h = ap refused h
+word_is (loads n r) h = refl
+word_is (allows x g) h = refl
+word_is (inhibits n) h = refl
+word_is (modifies n c x g) h = refl
 
 pub gained_is : (o : Outcome) → gained_in (answer_is o) ≡ gained_by o
 unfolding gained_in answer_is gained_by
@@ -37,47 +50,48 @@ gained_is (inhibits n) = refl
 gained_is (modifies n c x g) = refl
 
 -- what an answer says of a refusal and of an inhibited call, its word says
-pub says_refused : (o : Outcome) (n : ℕ) → answer_is o ≡ Refused n → answer_of o ≡ refused n
+pub says_refused : (o : Outcome) → NamedIn o → (r : Refusal) → answer_is o ≡ Refused r → answer_of o ≡ refused (number r)
 unfolding word_of
-says_refused o n e = sym (word_is o) ∙ ap word_of e
+says_refused o h r e = sym (word_is o h) ∙ ap word_of e
 
-pub says_inhibited : (o : Outcome) (n : ℕ) → answer_is o ≡ Inhibit n → answer_of o ≡ inhibit n
+pub says_inhibited : (o : Outcome) → NamedIn o → (n : ℕ) → answer_is o ≡ Inhibit n → answer_of o ≡ inhibit n
 unfolding word_of
-says_inhibited o n e = sym (word_is o) ∙ ap word_of e
+says_inhibited o h n e = sym (word_is o h) ∙ ap word_of e
 
-pub refused_says : (o : Outcome) (n : ℕ) → answer_of o ≡ refused n → answer_is o ≡ Refused n
-unfolding answer_is answer_of
-refused_says (refuses k) n e = let z : k ≡ n = cc in ap Refused z
-refused_says (loads k r) n e = cc
-refused_says (allows x g) n e = cc
-refused_says (inhibits k) n e = cc
-refused_says (modifies k c x g) n e = cc
+-- the refusal in an answer, by its word
+pub refusal_said : (o : Outcome) → NamedIn o → (n : ℕ) → (refusal_in (answer_is o) ≡ some n) ↔ (answer_of o ≡ refused n)
+unfolding refusal_in answer_is answer_of NamedIn Named
+refusal_said (refuses k) h n = (λ e. let z : k ≡ n = cc in ap refused z, λ e. let z : k ≡ n = cc in ap some (h ∙ z))
+refusal_said (loads k r) h n = (λ e. cc, λ e. cc)
+refusal_said (allows x g) h n = (λ e. cc, λ e. cc)
+refusal_said (inhibits k) h n = (λ e. cc, λ e. cc)
+refusal_said (modifies k c x g) h n = (λ e. cc, λ e. cc)
 
 -- an answer with the word of an outcome and those that gained by it is the answer to it
 pub answer_told : (a : Answer) (o : Outcome) → word_of a ≡ answer_of o → gained_in a ≡ gained_by o → a ≡ answer_is o
 unfolding word_of gained_in answer_is answer_of gained_by
-answer_told (Refused n) (refuses k) e g = let z : n ≡ k = cc in ap Refused z
-answer_told (Refused n) (loads k r) e g = cc
-answer_told (Refused n) (allows x h) e g = cc
-answer_told (Refused n) (inhibits k) e g = cc
-answer_told (Refused n) (modifies k c x h) e g = cc
+answer_told (Refused r) (refuses k) e g = let z : number r ≡ k = cc in ap Refused (rw z at (sym (refusal_of r)))
+answer_told (Refused r) (loads k l) e g = cc
+answer_told (Refused r) (allows x h) e g = cc
+answer_told (Refused r) (inhibits k) e g = cc
+answer_told (Refused r) (modifies k c x h) e g = cc
 answer_told (Loaded n) (refuses k) e g = cc
-answer_told (Loaded n) (loads k r) e g = let z : n ≡ k = cc in ap Loaded z
+answer_told (Loaded n) (loads k l) e g = let z : n ≡ k = cc in ap Loaded z
 answer_told (Loaded n) (allows x h) e g = cc
 answer_told (Loaded n) (inhibits k) e g = cc
 answer_told (Loaded n) (modifies k c x h) e g = cc
 answer_told (Allow i) (refuses k) e g = cc
-answer_told (Allow i) (loads k r) e g = cc
+answer_told (Allow i) (loads k l) e g = cc
 answer_told (Allow i) (allows x h) e g = ap Allow g
 answer_told (Allow i) (inhibits k) e g = cc
 answer_told (Allow i) (modifies k c x h) e g = cc
 answer_told (Inhibit n) (refuses k) e g = cc
-answer_told (Inhibit n) (loads k r) e g = cc
+answer_told (Inhibit n) (loads k l) e g = cc
 answer_told (Inhibit n) (allows x h) e g = cc
 answer_told (Inhibit n) (inhibits k) e g = let z : n ≡ k = cc in ap Inhibit z
 answer_told (Inhibit n) (modifies k c x h) e g = cc
 answer_told (Modify n d i) (refuses k) e g = cc
-answer_told (Modify n d i) (loads k r) e g = cc
+answer_told (Modify n d i) (loads k l) e g = cc
 answer_told (Modify n d i) (allows x h) e g = cc
 answer_told (Modify n d i) (inhibits k) e g = cc
 answer_told (Modify n d i) (modifies k c x h) e g =
@@ -103,7 +117,7 @@ few g h = omega (arith, members_le g h)
 
 pub codes_tell : CodesTell
 unfolding CodesTell InBytes word_of code_of word_by word_from
-codes_tell (Refused n) h = one 4 n (omega arith) h
+codes_tell (Refused r) h = one 4 (number r) (omega arith) h
 codes_tell (Loaded n) h = one 3 n (omega arith) h
 codes_tell (Allow g) h =
     let n : ℕ = length (members g) in
@@ -115,7 +129,7 @@ codes_tell (Modify n c g) h = four 2 n c (length (members g)) (omega arith) h.0 
 -- a code fits its place in the slice
 pub code_lt : (a : Answer) → InBytes a → code_of (word_of a) < 2 ^ 32
 unfolding InBytes word_of code_of
-code_lt (Refused n) h = omega arith
+code_lt (Refused r) h = omega arith
 code_lt (Loaded n) h = omega arith
 code_lt (Allow g) h = omega (arith, few g h)
 code_lt (Inhibit n) h = omega arith

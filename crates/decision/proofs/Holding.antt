@@ -27,15 +27,16 @@ use Rattle.flow.proofs.Bools.{and_l, and_r}
 use Rattle.flow.proofs.Rows.{target_lt, row_of_lem, Rows}
 use Rattle.store.proofs.Packing.{maps_from, ways_from, counts_from, packed_lt}
 use Rattle.flow.proofs.Entries.{Each}
+use Rattle.terms.specs.Refusals.{number}
 use Rattle.decision.specs.declared.Answer.{Answer}
 use Rattle.decision.specs.declared.Answer.TheVariants.{Allow}
 use Rattle.decision.specs.View.{view}
 use Rattle.decision.specs.Answers.{Sound, AnswersRecord}
 use Rattle.decision.specs.Logs.{InBytes}
 use Rattle.decision.specs.Chains.{Numbers, Holdable, OfBytes, ChainExists}
-use Rattle.decision.proofs.CodeLaws.{answer_is, word_is, gained_is, says_refused, says_inhibited, refused_says}
+use Rattle.decision.proofs.CodeLaws.{answer_is, NamedIn, word_is, gained_is, says_refused, says_inhibited, refusal_said}
 use Rattle.decision.proofs.Stored.{held, held_view, parts_of, blank, field_of, sets_of, fields_of, words_of, fields_fit_lem, substitute_lt, formed_at}
-use Rattle.decision.proofs.Telling.{kept_ruled, outcome_bytes}
+use Rattle.decision.proofs.Telling.{kept_ruled, outcome_named, outcome_bytes}
 use Rattle.decision.proofs.Bounds.{state_bounded, state_ruled}
 use Rattle.decision.proofs.ListLaws.{Below, append_numbers, table_numbers, one_number}
 
@@ -99,15 +100,15 @@ module _ (steps : List Step) (h : (n : ℕ) → OfBytes (step_at steps n)) (k : 
       }
 
 -- ---- one record, from a state that a monitor holds to the state after it, where no rule is broken
-module _ (s : State) (bytes : List ℕ) (v : view (held s) ≡ s) (w : view (held (next s bytes)) ≡ next s bytes) (unbroken : lowest_broken (next s bytes) ≡ none) where
+module _ (s : State) (bytes : List ℕ) (named : NamedIn (outcome s bytes)) (v : view (held s) ≡ s) (w : view (held (next s bytes)) ≡ next s bytes) (unbroken : lowest_broken (next s bytes) ≡ none) where
   pub record_answered : AnswersRecord (held s) bytes (record { answer = answer_is (outcome s bytes); monitor = held (next s bytes) })
   unfolding Sound outcome answer next RefusedExactly StoppedKeeps
   record_answered =
       record {
-        refusal = λ n. let h = refused_exactly s bytes n in rw v (λ e. sym (refusal_read s bytes) ∙ h.0 (says_refused (outcome s bytes) n e), λ e. refused_says (outcome s bytes) n (h.1 (refusal_read s bytes ∙ e)));
-        refused_kept = λ n e. ap held ((stopped_keeps s bytes n).0 (says_refused (outcome s bytes) n e));
-        inhibited_kept = λ n e. ap held ((stopped_keeps s bytes n).1 (says_inhibited (outcome s bytes) n e));
-        answer = λ h. rw v (word_is (outcome s bytes));
+        refusal = λ n. let h = refused_exactly s bytes n in let said = refusal_said (outcome s bytes) named n in rw v (λ e. sym (refusal_read s bytes) ∙ h.0 (said.0 e), λ e. said.1 (h.1 (refusal_read s bytes ∙ e)));
+        refused_kept = λ r e. ap held ((stopped_keeps s bytes (number r)).0 (says_refused (outcome s bytes) named r e));
+        inhibited_kept = λ n e. ap held ((stopped_keeps s bytes n).1 (says_inhibited (outcome s bytes) named n e));
+        answer = λ h. rw v (word_is (outcome s bytes) named);
         gained = λ h. rw v (gained_is (outcome s bytes));
         state = λ h. w ∙ ap (λ (u : State). next u bytes) (sym v);
         sound = λ h. ap lowest_broken w ∙ unbroken;
@@ -135,7 +136,7 @@ chain_exists steps =
       chain =
           record {
             made = views steps 0;
-            answers = λ n bytes e. rw e (record_answered (state_at steps n) bytes (views steps n) (rw e at (views steps (suc n))) (rw e at (state_kept steps (suc n)).unbroken));
+            answers = λ n bytes e. rw e (record_answered (state_at steps n) bytes (outcome_named (state_at steps n) (kept_ruled (state_at steps n) (state_kept steps n)) bytes) (views steps n) (rw e at (views steps (suc n))) (rw e at (state_kept steps (suc n)).unbroken));
             rests = λ n e. rw e;
           };
       told = λ n. answer_bytes (state_at steps n) (state_kept steps n) (step_at steps n);

@@ -4,6 +4,7 @@ pub mod CallLaws
 pub mod StopLaws
 pub mod LoadLaws
 pub mod LogLaws
+pub mod Refusals
 pub mod CodeLaws
 pub mod TwoRuns
 pub mod AtOnce

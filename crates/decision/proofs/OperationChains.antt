@@ -13,12 +13,13 @@ use borrow.Author.Tests.{le-leb, lt-leb}
 use Rattle.flow.specs.Box.{State}
 use Rattle.flow.specs.Rules.{lowest_broken}
 use Rattle.flow.specs.Records.{records_of}
-use Rattle.flow.specs.Verdicts.{Answer as Word, next, Replay, run_log}
+use Rattle.flow.specs.Verdicts.{Answer as Word, outcome, next, Replay, run_log}
 use Rattle.flow.specs.Contents.{entry, step_state, state_at}
 use Rattle.flow.specs.Consequences.{OneAnswerEach}
 use Rattle.flow.proofs.Consequences.{one_answer_each}
 use Rattle.flow.proofs.Keeping.{Invariant, state_kept}
-use Rattle.tracker.specs.declared.queries.Reply.TheVariants.{Result, Refused}
+use Rattle.std.specs.Prelude.{Ok, Err}
+use Rattle.terms.specs.declared.refusal.Refusal.TheVariants.{SliceShort}
 use Rattle.tracker.specs.Replies.{reply_of}
 use Rattle.decision.specs.declared.Answer.{Answer}
 use Rattle.decision.specs.declared.Answer.TheVariants.{Allow}
@@ -28,8 +29,9 @@ use Rattle.decision.specs.Logs.{InBytes, codes_of, room_for, AnswersLogBy, Answe
 use Rattle.decision.specs.Chains.{call_record, CallIsRecord, given, called, moves, step_of, Operation, event, run, short, steps_of, all_steps, moment, operation_at, AnswersRun, AnswersOperation, OperationChainExists}
 use Rattle.decision.proofs.HookLaws.{call_is_record}
 use Rattle.decision.proofs.Stored.{held}
+use Rattle.decision.proofs.CodeLaws.{NamedIn}
 use Rattle.decision.proofs.ListLaws.{Below}
-use Rattle.decision.proofs.Telling.{kept_ruled, codes_below}
+use Rattle.decision.proofs.Telling.{kept_ruled, outcome_named, codes_below}
 use Rattle.decision.proofs.Holding.{held_holdable, record_answered, answer_to, answer_bytes, views}
 use Rattle.decision.proofs.Operations.{replay, state_by, records_replayed, next_moment}
 
@@ -49,7 +51,7 @@ codes_by s (event e) = []
 codes_by s (run log) = codes_of (run_log s log).answers
 codes_by s (short log some) = []
 
-module _ (s : State) (v : view (held s) ≡ s) where
+module _ (s : State) (named : (bytes : List ℕ) → NamedIn (outcome s bytes)) (v : view (held s) ≡ s) where
   run_answered : (log : List ℕ) → (let t = state_by s (map entry (records_of log)) in view (held t) ≡ t → lowest_broken t ≡ none → AnswersRun true (held s) log (codes_of (run_log s log).answers) (held t))
   unfolding AnswersLog AnswersLogBy room_for reply_of Sound OneAnswerEach run_log
   run_answered log w u =
@@ -59,7 +61,7 @@ module _ (s : State) (v : view (held s) ≡ s) where
       let room : room_for log codes ≡ true = le-leb n (length codes) (omega arith) in
       record {
         before = codes;
-        reply = Result n;
+        reply = Ok n;
         room = room;
         answers =
             rw (room, v) (
@@ -74,12 +76,12 @@ module _ (s : State) (v : view (held s) ≡ s) where
   unfolding AnswersLog AnswersLogBy room_for reply_of
   short_answered log some =
       let room : room_for log [] ≡ false = lt-leb (length (records_of log)) 0 some in
-      record { before = []; reply = Refused 13; room = room; answers = rw room (refl, refl, refl) }
+      record { before = []; reply = Err SliceShort; room = room; answers = rw room (refl, refl, refl) }
 
   operation_answered : (o : Operation) → (let t = state_by s (steps_of o) in view (held t) ≡ t → lowest_broken t ≡ none → AnswersOperation o (held s) (answer_by s o) (codes_by s o) (held t))
   unfolding AnswersOperation steps_of step_of replay step_state answer_by answer_to codes_by CallIsRecord next
-  operation_answered (event (given bytes)) w u = record_answered s bytes v w u
-  operation_answered (event (called kind p d e f)) w u = (call_is_record (held s) kind p d e f _).1 (record_answered s (call_record kind p d e f) v w u)
+  operation_answered (event (given bytes)) w u = record_answered s bytes (named bytes) v w u
+  operation_answered (event (called kind p d e f)) w u = (call_is_record (held s) kind p d e f _).1 (record_answered s (call_record kind p d e f) (named (call_record kind p d e f)) v w u)
   operation_answered (event moves) w u = refl
   operation_answered (run log) w u = run_answered log w u
   operation_answered (short log some) w u = short_answered log some
@@ -98,7 +100,7 @@ module _ (os : List Operation) where
   step_answered : (n : ℕ) → AnswersOperation (operation_at os n) (held (at n)) (answer_by (at n) (operation_at os n)) (codes_by (at n) (operation_at os n)) (held (at (suc n)))
   step_answered n =
       rw (next_moment os n)
-      (operation_answered (at n) (views (all_steps os) (moment os n)) (operation_at os n)
+      (operation_answered (at n) (outcome_named (at n) (kept_ruled (at n) (state_kept (all_steps os) (moment os n)))) (views (all_steps os) (moment os n)) (operation_at os n)
       (rw (next_moment os n) at (views (all_steps os) (moment os (suc n))))
       (rw (next_moment os n) at (state_kept (all_steps os) (moment os (suc n))).unbroken))
 

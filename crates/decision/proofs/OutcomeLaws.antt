@@ -1,4 +1,4 @@
--- What every outcome says, whatever the state and the record (`outcome_fits`): its numbers are bytes, the change that it makes keeps the live
+-- What every outcome says, whatever the state and the record (`outcome_fits`): it refuses with the number of a refusal, its other numbers are bytes, the change that it makes keeps the live
 -- processes a set and the names as many, and a rule that it loads has room and diverts to a container. So the rules stay few (`after_ruled`). It goes by what was
 -- read, by the first test that holds, and by the lowest broken rule.
 use Prim.Native.Nat.{ℕ, suc, ◌+◌, ◌^◌, ◌≤◌, ◌<◌}
@@ -22,13 +22,13 @@ use Rattle.flow.specs.Kept.{well_formed}
 use Rattle.flow.specs.Verdicts.{Outcome, refuses, loads, allows, inhibits, modifies, diversion, may_divert, breaks_none, stopped, verdict_by, verdict_at, verdict, outcome_of_call, outcome_of_rule, outcome_of, with_rule, state_after}
 use Rattle.flow.proofs.Bools.{choice}
 use Rattle.flow.proofs.TableLaws.{none_is}
-use Rattle.flow.proofs.Places.{frame_byte, call_byte, rule_byte}
 use Rattle.flow.proofs.Accepted.{accepted, fits_process, fits_a}
 use Rattle.flow.proofs.Outcomes.{accepted_rule}
 use Rattle.flow.proofs.GainLaws.{gained_lt}
 use Rattle.rules.proofs.LoadingLaws.{fit_substitute}
 use Rattle.decision.specs.Logs.{InBytes}
-use Rattle.decision.proofs.CodeLaws.{answer_is}
+use Rattle.decision.proofs.Refusals.{Named, refusal_by, number_lt, frame_named, call_named, rule_named}
+use Rattle.decision.proofs.CodeLaws.{answer_is, NamedIn}
 use Rattle.decision.proofs.ListLaws.{Every, every_more}
 use Rattle.decision.proofs.Stored.{blank}
 
@@ -90,12 +90,12 @@ module _ (Q : Rule → Type 0) where
     pub each : Every Q blank rs
 
   unfoldable pub ReadingFits : Reading → Type 0
-  ReadingFits (unreadable n) = n < 256
+  ReadingFits (unreadable n) = Named n
   ReadingFits (a_call q) = Unit {0}
   ReadingFits (a_rule r) = Q r
 
   unfoldable pub OutcomeFits : State → Outcome → Type 0
-  OutcomeFits s (refuses n) = n < 256
+  OutcomeFits s (refuses n) = Named n
   OutcomeFits s (loads n r) = (n < 32) × (length s.rules < 32) × (r.substitute < 64) × Q r
   OutcomeFits s (allows x g) = Steady s.tables x.tables × (g < 2 ^ 64)
   OutcomeFits s (inhibits n) = n < 256
@@ -103,11 +103,19 @@ module _ (Q : Rule → Type 0) where
 
   pub fits_bytes : (s : State) (o : Outcome) → OutcomeFits s o → InBytes (answer_is o)
   unfolding OutcomeFits answer_is InBytes
-  fits_bytes s (refuses n) h = h
+  fits_bytes s (refuses n) h = number_lt (refusal_by n)
   fits_bytes s (loads n r) h = omega (arith, h.0)
   fits_bytes s (allows x g) h = h.1
   fits_bytes s (inhibits n) h = h
   fits_bytes s (modifies n c x g) h = (h.0, omega (arith, h.1), h.3)
+
+  pub fits_named : (s : State) (o : Outcome) → OutcomeFits s o → NamedIn o
+  unfolding OutcomeFits NamedIn
+  fits_named s (refuses n) h = h
+  fits_named s (loads n r) h = tt
+  fits_named s (allows x g) h = tt
+  fits_named s (inhibits n) h = tt
+  fits_named s (modifies n c x g) h = tt
 
   pub after_ruled : (s : State) (o : Outcome) → OutcomeFits s o → Ruled s.rules → Ruled (state_after s o).rules
   unfolding state_after OutcomeFits with_rule after
@@ -128,7 +136,7 @@ module _ (Q : Rule → Type 0) where
     where
       go : (o : Option ℕ) → first_that (frame_tests bytes) ≡ o → ReadingFits (reading_by bytes o)
       go none e = choice ReadingFits (eqb (tag_of bytes) call_tag) _ _ (λ x. tt) (λ x. h)
-      go (some n) e = frame_byte bytes n e
+      go (some n) e = frame_named bytes n e
 
   module _ (s : State) (ruled : Ruled s.rules) where
     stopped_fits : (q : Call) (n : ℕ) (r : Rule) → n < 256 → r.substitute < 64 → OutcomeFits s (stopped s q n r)
@@ -144,21 +152,21 @@ module _ (Q : Rule → Type 0) where
     verdict_fits q t (some x) h l = stopped_fits q x.number x.rule l.0 l.1
 
     call_fits : (q : Option Call) (o : Option ℕ) → first_that (call_tests s.tables q) ≡ o → OutcomeFits s (outcome_of_call s q o)
-    unfolding outcome_of_call verdict verdict_at OutcomeFits lowest_broken after
-    call_fits none none e = omega arith
+    unfolding outcome_of_call verdict verdict_at OutcomeFits lowest_broken after call_tests first_that
+    call_fits none none e = absurd (let z : ◌≡◌ {A = ℕ} 0 1 = cc in let y : ⊥ = omega arith in y)
     call_fits (some q) none e =
         let l : length s.rules ≤ 32 = ruled.counted in
         verdict_fits q _ _ (accepted s.tables q e).fits
         (first_broken_lem (after s (change s.tables q)) 0 s.rules (omega arith) ruled.diverted)
-    call_fits none (some n) e = call_byte s.tables none n e
-    call_fits (some q) (some n) e = call_byte s.tables (some q) n e
+    call_fits none (some n) e = call_named s.tables none n e
+    call_fits (some q) (some n) e = call_named s.tables (some q) n e
 
     rule_fits : (r : Rule) (o : Option ℕ) → first_that (rule_tests s r) ≡ o → Q r → OutcomeFits s (outcome_of_rule s r o)
     unfolding outcome_of_rule OutcomeFits well_formed
     rule_fits r none e f =
         let h = accepted_rule s r e in
         (h.2, h.2, fit_substitute r (none_is (first_that (field_tests r)) h.1), f)
-    rule_fits r (some n) e f = rule_byte s r n e
+    rule_fits r (some n) e f = rule_named s r n e
 
     pub outcome_fits : (y : Reading) → ReadingFits y → OutcomeFits s (outcome_of s y)
     unfolding outcome_of OutcomeFits ReadingFits

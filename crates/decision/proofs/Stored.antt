@@ -26,7 +26,7 @@ use Rattle.rules.specs.Stored.{place, count_field, condition_at, action_at, subs
 use Rattle.rules.proofs.StoredLaws.{count_all, count_full}
 use Rattle.rules.proofs.LoadingLaws.{fit_substitute}
 use Rattle.decision.specs.declared.Monitor.{Monitor}
-use Rattle.decision.specs.View.{monitor, view}
+use Rattle.decision.specs.View.{view}
 
 -- the tag of a condition, its item, and its set or second item
 unfoldable pub parts_of : Condition → ℕ × ℕ × ℕ
@@ -56,7 +56,11 @@ words_of s =
     ++ (s.items ++ (maps_from s.tables.reads s.tables.boths ++ (ways_from s.tables.boths ++ (counts_from s.tables.reads ++ counts_from s.tables.boths))))
 
 unfoldable pub held : State → Monitor
-held s = monitor (words_of s) s.tables.descriptors s.tables.names (sets_of s.rules) (fields_of s.rules)
+held s =
+    record {
+      tracker = record { words = words_of s; descriptors = s.tables.descriptors; names = s.tables.names };
+      rules = record { sets = sets_of s.rules; fields = fields_of s.rules };
+    }
 
 -- ---- a rule that can be loaded, from its stored fields
 condition_back : (c : Condition) → condition_of (parts_of c).0 (parts_of c).1 (parts_of c).2 ≡ c

@@ -20,10 +20,10 @@ use Rattle.decision.specs.View.{view}
 use Rattle.decision.specs.Answers.{Sound, Answers}
 use Rattle.decision.specs.Logs.{word_from, InBytes, CodesTell, codes_of}
 use Rattle.decision.specs.Telling.{AnswersInBytes, LogCodesTell}
-use Rattle.decision.proofs.CodeLaws.{answer_is, answer_told, word_is, codes_tell, code_lt}
+use Rattle.decision.proofs.CodeLaws.{answer_is, NamedIn, answer_told, word_is, codes_tell, code_lt}
 use Rattle.decision.proofs.Stored.{blank, formed_at, substitute_lt}
 use Rattle.decision.proofs.ListLaws.{Below, every_table}
-use Rattle.decision.proofs.OutcomeLaws.{Ruled, ReadingFits, fits_bytes, reading_fits, after_ruled, outcome_fits}
+use Rattle.decision.proofs.OutcomeLaws.{Ruled, ReadingFits, fits_bytes, fits_named, reading_fits, after_ruled, outcome_fits}
 
 -- nothing is asked of the rules that are read
 abbrev pub Any : Rule → Type 0
@@ -39,10 +39,10 @@ pub view_ruled : (m : Monitor) → Ruled Any (view m).rules
 unfolding view rules_of substitute_at
 view_ruled m =
     record {
-      counted = rw (rules_length m.sets m.fields) (count_le m.fields);
+      counted = rw (rules_length m.rules.sets m.rules.fields) (count_le m.rules.fields);
       diverted =
-          every_table (λ (r : Rule). r.substitute < 64) blank (count_of m.fields) (rule_at m.sets m.fields) (omega arith)
-          (λ k. mod-lt (field_at m.fields k substitute_field) (omega arith));
+          every_table (λ (r : Rule). r.substitute < 64) blank (count_of m.rules.fields) (rule_at m.rules.sets m.rules.fields) (omega arith)
+          (λ k. mod-lt (field_at m.rules.fields k substitute_field) (omega arith));
       each = λ k. tt;
     }
 
@@ -50,6 +50,10 @@ view_ruled m =
 module _ (s : State) (ruled : Ruled Any s.rules) where
   read_bytes : (y : Reading) → ReadingFits Any y → InBytes (answer_is (outcome_of s y))
   read_bytes y f = fits_bytes Any s _ (outcome_fits Any s ruled y f)
+
+  pub outcome_named : (bytes : List ℕ) → NamedIn (outcome s bytes)
+  unfolding outcome
+  outcome_named bytes = fits_named Any s _ (outcome_fits Any s ruled (reading bytes) (reading_any bytes))
 
   pub outcome_bytes : (bytes : List ℕ) → InBytes (answer_is (outcome s bytes))
   unfolding outcome
@@ -71,13 +75,13 @@ all_told : (s : State) (rs : List (List ℕ)) → Ruled Any s.rules → map word
 unfolding answer_all codes_of CodesTell
 all_told s [] h = refl
 all_told s (r ∷ rs) h =
-    ap₂ (λ (w : Word) (ws : List Word). w ∷ ws) (rw (word_is (outcome s r)) at (codes_tell (answer_is (outcome s r)) (outcome_bytes s h r)))
+    ap₂ (λ (w : Word) (ws : List Word). w ∷ ws) (rw (word_is (outcome s r) (outcome_named s h r)) at (codes_tell (answer_is (outcome s r)) (outcome_bytes s h r)))
     (all_told (state_after s (outcome s r)) rs (next_ruled s r h))
 
 pub codes_below : (s : State) (rs : List (List ℕ)) → Ruled Any s.rules → Below (2 ^ 32) (codes_of (answer_all s rs).answers)
 unfolding answer_all codes_of
 codes_below s [] h k = pow_pos 32
-codes_below s (r ∷ rs) h zero = rw (word_is (outcome s r)) at (code_lt (answer_is (outcome s r)) (outcome_bytes s h r))
+codes_below s (r ∷ rs) h zero = rw (word_is (outcome s r) (outcome_named s h r)) at (code_lt (answer_is (outcome s r)) (outcome_bytes s h r))
 codes_below s (r ∷ rs) h (suc k) = codes_below (state_after s (outcome s r)) rs (next_ruled s r h) k
 
 pub log_codes_tell : LogCodesTell

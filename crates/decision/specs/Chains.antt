@@ -7,7 +7,7 @@ use Rattle.flow.specs.Records.{call_tag, a_rule, reading, records_of}
 use Rattle.flow.specs.Verdicts.{Answer as Word, rule, allow, answer}
 use Rattle.flow.specs.Contents.{Step, entry, memory, Machine, run_at, step_at, state_at}
 use Rattle.flow.specs.TwoRuns.{Agree}
-use Rattle.tracker.specs.declared.queries.Reply.{Reply}
+use Rattle.tracker.specs.Replies.{Reply}
 use Rattle.decision.specs.declared.Monitor.{Monitor}
 use Rattle.decision.specs.declared.Answer.{Answer}
 use Rattle.decision.specs.declared.Answered.{Answered}
@@ -24,11 +24,11 @@ pub record Numbers (n limit : ℕ) (l : List ℕ) : Type 0 where
 
 -- what the code's `Monitor` can hold: arrays of its lengths, of numbers of its widths
 pub record Holdable (m : Monitor) : Type 0 where
-  pub words : Numbers 353 (2 ^ 64) m.words
-  pub descriptors : Numbers 512 256 m.descriptors
-  pub names : Numbers 128 256 m.names
-  pub sets : Numbers 32 (2 ^ 64) m.sets
-  pub fields : Numbers 129 256 m.fields
+  pub words : Numbers 353 (2 ^ 64) m.tracker.words
+  pub descriptors : Numbers 512 256 m.tracker.descriptors
+  pub names : Numbers 128 256 m.tracker.names
+  pub sets : Numbers 32 (2 ^ 64) m.rules.sets
+  pub fields : Numbers 129 256 m.rules.fields
 
 -- a record of bytes
 unfoldable pub OfBytes : Step → Type 0

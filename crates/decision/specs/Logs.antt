@@ -3,6 +3,7 @@ use Rattle.std.specs.Prelude.{ℕ, ◌+◌, ◌*◌, ◌/◌, ◌%◌, ◌^◌, 
 use Rattle.flow.specs.Records.{records_of}
 use Rattle.flow.specs.Verdicts.{Answer as Word, refused, rule, allow, inhibit, modify, run_log}
 use Rattle.flow.specs.Queries.{refuse, result}
+use Rattle.terms.specs.Refusals.{number}
 use Rattle.tracker.specs.Replies.{reply_of}
 use Rattle.decision.specs.declared.Monitor.{Monitor}
 use Rattle.decision.specs.declared.Answer.{Answer}
@@ -43,7 +44,7 @@ word_from n = word_by (n % 256) (n / 256 % 256) (n / 65536 % 256) (n / 16777216 
 
 -- each number of the answer is a byte, and a set one of containers
 unfoldable pub InBytes : Answer → Type 0
-InBytes (Refused n) = n < 256
+InBytes (Refused r) = number r < 256
 InBytes (Loaded n) = n < 256
 InBytes (Allow g) = g < 2 ^ 64
 InBytes (Inhibit n) = n < 256

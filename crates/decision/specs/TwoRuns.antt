@@ -1,14 +1,13 @@
 -- Demand 3 of the request (with 01, The contents in demand 3), of the code that runs. Trackers are related to each other by nothing but what
 -- the functions promise: `IsFresh` is the ensures of `Monitor::new`, `AnswersRecord` that of `Monitor::answer`, `AnswersItems` that of
 -- `Monitor::items`, `AnswersLog` that of `Monitor::run`.
-use Rattle.std.specs.Prelude.{ℕ, suc, ◌≤◌, ◌<◌, ◌≡◌, ◌⊎◌, Bool, true, false, List, ◌++◌, map, length}
+use Rattle.std.specs.Prelude.{ℕ, suc, ◌≤◌, ◌<◌, ◌≡◌, ◌⊎◌, Bool, true, false, List, ◌++◌, map, length, Ok}
 use Rattle.sets.specs.Sets.{has}
 use Rattle.flow.specs.Box.{container_count, item_count, Rule}
 use Rattle.flow.specs.Rules.{forbids}
 use Rattle.flow.specs.Records.{a_rule, reading, records_of}
 use Rattle.flow.specs.Contents.{Step, entry, memory, Machine, run_at, step_at, state_at}
 use Rattle.flow.specs.TwoRuns.{Agree}
-use Rattle.tracker.specs.declared.queries.Reply.TheVariants.{Result}
 use Rattle.decision.specs.declared.Monitor.{Monitor}
 use Rattle.decision.specs.declared.Answer.{Answer}
 use Rattle.decision.specs.declared.Answer.TheVariants.{Loaded}
@@ -27,7 +26,7 @@ pub record Chain (steps : List Step) (x : ℕ → Monitor) (a : ℕ → Answer) 
 
 -- recorded as holding none of the chosen items: whatever the items query may answer has none of them
 unfoldable pub AnswersWithout : (ℕ → Bool) → Monitor → ℕ → Type 0
-AnswersWithout chosen m c = (w : ℕ) → AnswersItems m c (Result w) → (i : ℕ) → i < item_count → chosen i ≡ true → has w i ≡ false
+AnswersWithout chosen m c = (w : ℕ) → AnswersItems m c (Ok w) → (i : ℕ) → i < item_count → chosen i ≡ true → has w i ≡ false
 
 -- by moment j a rule that forbids container c item i was loaded: its record answered "rule"
 pub record LoadedAgainst (steps : List Step) (a : ℕ → Answer) (j c i : ℕ) : Type 0 where

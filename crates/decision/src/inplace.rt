@@ -1,395 +1,215 @@
-// What a call, a rule, a record and a log get (document 01, What a record gets), on a monitor's arrays where they lie. What a call gives is
-// planned, judged by the rules and made, then the rest of its change; what is refused or inhibited has stored nothing. Each function says
-// what it does of the monitor that the arrays make up.
-ghost use Rattle.std.specs.Prelude.{ℕ, ◌<◌, ◌≡◌, true, List};
+// What a call, a rule, a record and a log get (document 01, What a record gets), on a monitor where it lies. What a call gives is planned,
+// judged by the rules and made, then the rest of its change; what is refused or inhibited has stored nothing.
+ghost use Rattle.std.specs.Prelude.{ℕ, ◌<◌, ◌≡◌, true};
 ghost use Rattle.std.proofs.Math.Option.{some};
 ghost use Rattle.flow.specs.Box.{rule_count};
-ghost use Rattle.flow.specs.Calls.{Call as Asked};
-ghost use Rattle.flow.specs.Records.{kind_of, a_call, a_rule};
-ghost use Rattle.tracker.specs.Rows.{call_in, Passes};
-ghost use Rattle.tracker.specs.Plans.{gives_at, GivesOnce};
-ghost use Rattle.rules.specs.Stored.{rule_from};
-ghost use Rattle.decision.specs.View.{monitor, monitor_before, monitor_after};
+ghost use Rattle.flow.specs.Records.{a_call, a_rule};
+ghost use Rattle.terms.specs.Calls.{call_in, asked};
+ghost use Rattle.terms.specs.Kinds.{kind_in};
+ghost use Rattle.terms.specs.Rules.{rule_in};
+ghost use Rattle.tracker.specs.Rows.{Passes};
+ghost use Rattle.tracker.specs.Plans.{gives_by};
+ghost use Rattle.decision.specs.View.{maps};
 ghost use Rattle.decision.specs.Logs.{Coded, AnswersLog};
-ghost use Rattle.decision.specs.Answers.{IsFresh, AnswersRecord, Answers, Gives, stopped_by, AnswersStopped};
+ghost use Rattle.decision.specs.Answers.{IsFresh, AnswersRecord, Answers, Gives, stopped_by, AnswersStopped, loaded_by};
 
-use crate::Answer;
 use crate::logs::{code, has_room};
-use logreader::end_after;
+use crate::{Answer, Monitor};
+use logreader::LogReader;
 use records::{Record, read};
+use rules::action::Action;
 use rules::judging::{first_anew, judge};
 use rules::loading::{breaks_now, unfit};
-use rules::stored::{FORBID_TAG, RULE_COUNT, SEPARATE_TAG, count};
-use rules::{RuleFields, stored};
 use sets::lengths;
-use store::cells::{make_items, replace_items};
-use store::limits::{CONTAINERS, DEVICES, NONE};
+use store::cells::make_items;
+use store::limits::DEVICES;
 use store::lookups::{in_use, items};
 use store::numbers::Container;
 use store::spread::reach;
-use tracker::calls::{finish, finish_copy, finish_exchange, finish_gift};
-use tracker::plan::{copy_of, exchange_of, gift_of, gives, giving};
+use terms::call::KnownCall;
+use terms::kind::Kind;
+use terms::refusal::Refusal;
+use terms::rule::Rule;
+use tracker::calls::finish;
+use tracker::giving::{Copying, Exchange, Giving, Once};
+use tracker::plan::{gives, giving};
 use tracker::queries::Reply;
-use tracker::rows::refusal;
+use tracker::rows::admit;
 use tracker::{Call, Tracker};
 
-const CONFINE_TAG: u8 = 0x13;
-
-const WRITE: u8 = 9;
-
-const DIVERT: u8 = 1;
-
-// Makes the arrays those of a fresh tracker without rules.
-pub fn renew(
-    words: &mut [u64; 353],
-    descriptors: &mut [u8; 512],
-    names: &mut [u8; 128],
-    sets: &mut [u64; 32],
-    fields: &mut [u8; 129],
-)
-    ensures { IsFresh (monitor_after words descriptors names sets fields) }
+// Makes it a fresh monitor without rules: array by array, since `*m = Monitor::new()` makes another one on the stack first.
+pub fn renew(m: &mut Monitor)
+    ensures { IsFresh m.new }
 {
-    *words = [0u64; 353];
-    *descriptors = [Tracker::CLOSED; 512];
-    *names = [Tracker::CLOSED; 128];
-    *sets = [0u64; 32];
-    *fields = [0u8; 129];
+    m.tracker.words = [0u64; 353];
+    m.tracker.descriptors = [Tracker::CLOSED; 512];
+    m.tracker.names = [Tracker::CLOSED; 128];
+    m.rules.sets = [0u64; 32];
+    m.rules.fields = [0u8; 129];
 }
 
-// What a stopped call came to: the container that it was diverted to, or 64, and the containers that gained.
+// What a diverted write came to: the container that it went to, and the containers that gained.
 #[derive(Clone, Copy)]
 pub struct Diverted {
     pub to: u8,
     pub gained: u64,
 }
 
-fn inhibited() -> Diverted
-    ensures { result ≡ record { to = 64; gained = 0 } }
+// A call that rule k stops: a write may go to the rule's substitute; else there is nothing, and it is inhibited.
+fn stop_in(m: &mut Monitor, q: KnownCall, k: u8) -> Option<Diverted>
+    requires { (k < rule_count) × Passes (maps m.old) (asked q) }
+    ensures answers { AnswersStopped m.old (asked q) k (record { answer = stopped_by k result; monitor = m.new }) }
+    ensures rules { m.new.rules ≡ m.old.rules }
 {
-    Diverted {
-        to: NONE,
-        gained: 0,
+    // How long the arrays are: of a struct within a struct the proof does not know it.
+    lengths(&m.tracker.words, &m.tracker.names);
+    let Kind::Write = q.kind else {
+        return None;
+    };
+    if m.rules.action(k) != Action::Divert as u8 {
+        return None;
     }
-}
-
-// A call that rule k stops: a write may go to the rule's substitute.
-fn stop_in(
-    words: &mut [u64; 353],
-    descriptors: &[u8; 512],
-    names: &[u8; 128],
-    sets: &[u64; 32],
-    fields: &[u8; 129],
-    q: Call,
-    k: u8,
-) -> Diverted
-    requires { (k < rule_count) × Passes words.old descriptors.now names.now q }
-    ensures { (x : Asked) → call_in q ≡ some x → AnswersStopped (monitor words.old descriptors.now names.now sets.now fields.now) x k (record { answer = stopped_by k result.to result.gained; monitor = monitor words.new descriptors.now names.now sets.now fields.now }) }
-{
-    lengths(words, names);
-    let diverts = stored::action(fields, k) == DIVERT;
-    if !(diverts & (q.kind == WRITE)) {
-        return inhibited();
-    }
-    let c = stored::substitute(fields, k);
-    if !in_use(words, descriptors, names, Container(c)) {
-        return inhibited();
+    let t = &m.tracker;
+    let to = m.rules.substitute(k);
+    if !in_use(&t.words, &t.descriptors, &t.names, Container(to)) {
+        return None;
     }
     let own = DEVICES + q.process;
-    let plan = giving(items(words, Container(own)), reach(words, Container(c)));
-    if judge(words, plan, sets, fields) != count(fields) {
-        return inhibited();
+    let plan = giving(
+        items(&t.words, Container(own)),
+        reach(&t.words, Container(to)),
+    );
+    if judge(&t.words, plan, &m.rules).is_some() {
+        return None;
     }
-    let gained = make_items(words, plan);
-    Diverted { to: c, gained }
+    let gained = make_items(&mut m.tracker.words, plan);
+    Some(Diverted { to, gained })
 }
 
-// What a call that can give came to: the rule that stops it, or 32, and the containers that gained.
-#[derive(Clone, Copy)]
-pub struct Gift {
-    pub rule: u8,
-    pub gained: u64,
-}
-
-// Judges a call that gives once and is not refused, and makes it where no rule is broken.
-fn gift_in(
-    words: &mut [u64; 353],
-    descriptors: &[u8; 512],
-    names: &[u8; 128],
-    sets: &[u64; 32],
-    fields: &[u8; 129],
-    q: Call,
-) -> Gift
-    requires { Passes words.old descriptors.now names.now q × GivesOnce q }
-    ensures { Gives (monitor words.old descriptors.now names.now sets.now fields.now) q result.rule (monitor words.new descriptors.now names.now sets.now fields.now) result.gained }
+// As the tracker's give_by, but for the judging between; so is give_in, whose match picks the sort's impl.
+// Judges a call of a sort that can give and is not refused, and makes it where no rule is broken. Answers the containers that gained, or the rule
+// that stops it.
+fn give_by<G: Giving>(m: &mut Monitor, q: KnownCall) -> Result<u64, u8>
+    requires { Passes (maps m.old) (asked q) × G.takes (asked q) }
+    ensures { Gives m.old (asked q) result m.new }
 {
-    let plan = gift_of(words, descriptors, names, q);
-    let k = first_anew(words, plan, sets, fields);
-    if k != count(fields) {
-        return Gift { rule: k, gained: 0 };
+    let plan = G::plan(&m.tracker, q);
+    if let Some(k) = first_anew(&m.tracker.words, plan, &m.rules) {
+        return Err(k);
     }
-    let gained = make_items(words, plan);
-    finish_gift(words, descriptors, names, q);
-    Gift {
-        rule: RULE_COUNT,
-        gained,
-    }
-}
-
-// The same of a map both.
-fn exchange_in(
-    words: &mut [u64; 353],
-    descriptors: &[u8; 512],
-    names: &[u8; 128],
-    sets: &[u64; 32],
-    fields: &[u8; 129],
-    q: Call,
-) -> Gift
-    requires { Passes words.old descriptors.now names.now q × (q.kind ≡ 12) }
-    ensures { Gives (monitor words.old descriptors.now names.now sets.now fields.now) q result.rule (monitor words.new descriptors.now names.now sets.now fields.now) result.gained }
-{
-    let plan = exchange_of(words, descriptors, names, q);
-    let k = first_anew(words, plan, sets, fields);
-    if k != count(fields) {
-        return Gift { rule: k, gained: 0 };
-    }
-    let gained = make_items(words, plan);
-    finish_exchange(words, descriptors, names, q);
-    Gift {
-        rule: RULE_COUNT,
-        gained,
-    }
-}
-
-// The same of a fork.
-fn copy_in(
-    words: &mut [u64; 353],
-    descriptors: &mut [u8; 512],
-    names: &[u8; 128],
-    sets: &[u64; 32],
-    fields: &[u8; 129],
-    q: Call,
-) -> Gift
-    requires { Passes words.old descriptors.old names.now q × (q.kind ≡ 17) }
-    ensures { Gives (monitor words.old descriptors.old names.now sets.now fields.now) q result.rule (monitor words.new descriptors.new names.now sets.now fields.now) result.gained }
-{
-    let plan = copy_of(words, descriptors, names, q);
-    let k = first_anew(words, plan, sets, fields);
-    if k != count(fields) {
-        return Gift { rule: k, gained: 0 };
-    }
-    let child = DEVICES + q.a;
-    let gained = replace_items(words, Container(child), plan.given);
-    finish_copy(words, descriptors, names, q);
-    Gift {
-        rule: RULE_COUNT,
-        gained,
-    }
+    let gained = G::make(&mut m.tracker, q, plan);
+    G::finish(&mut m.tracker, q);
+    Ok(gained)
 }
 
 // The same of any call that can give.
-fn give_in(
-    words: &mut [u64; 353],
-    descriptors: &mut [u8; 512],
-    names: &[u8; 128],
-    sets: &[u64; 32],
-    fields: &[u8; 129],
-    q: Call,
-) -> Gift
-    requires { Passes words.old descriptors.old names.now q × (gives_at (kind_of q.kind) ≡ true) }
-    ensures { Gives (monitor words.old descriptors.old names.now sets.now fields.now) q result.rule (monitor words.new descriptors.new names.now sets.now fields.now) result.gained }
+fn give_in(m: &mut Monitor, q: KnownCall) -> Result<u64, u8>
+    requires { Passes (maps m.old) (asked q) × (gives_by (kind_in q.kind) ≡ true) }
+    ensures { Gives m.old (asked q) result m.new }
 {
-    let kind = q.kind;
-    match kind {
-        12 => exchange_in(words, descriptors, names, sets, fields, q),
-        17 => copy_in(words, descriptors, names, sets, fields, q),
-        _ => gift_in(words, descriptors, names, sets, fields, q),
+    match q.kind {
+        Kind::MapBoth => give_by::<Exchange>(m, q),
+        Kind::Fork => give_by::<Copying>(m, q),
+        _ => give_by::<Once>(m, q),
     }
 }
 
-// What a call of any five bytes gets. Those that cannot give are neither planned nor judged.
-pub fn call_in(
-    words: &mut [u64; 353],
-    descriptors: &mut [u8; 512],
-    names: &mut [u8; 128],
-    sets: &[u64; 32],
-    fields: &[u8; 129],
-    q: Call,
-) -> Answer
-    ensures { Answers (monitor words.old descriptors.old names.old sets.now fields.now) (a_call (call_in q)) (record { answer = result; monitor = monitor words.new descriptors.new names.new sets.now fields.now }) }
+// What a call that is not refused gets. Those that cannot give are neither planned nor judged.
+fn admitted(m: &mut Monitor, q: KnownCall) -> Answer
+    requires { Passes (maps m.old) (asked q) }
+    ensures answers { Answers m.old (a_call (some (asked q))) (record { answer = result; monitor = m.new }) }
+    ensures rules { m.new.rules ≡ m.old.rules }
 {
-    lengths(words, names);
-    let n = refusal(words, descriptors, names, q);
-    if n != 0 {
-        return Answer::Refused(n);
-    }
+    // How long the arrays are: of a struct within a struct the proof does not know it.
+    lengths(&m.tracker.words, &m.tracker.names);
     if !gives(q.kind) {
-        finish(words, descriptors, names, q);
+        finish(&mut m.tracker, q);
         return Answer::Allow(0);
     }
-    let g = give_in(words, descriptors, names, sets, fields, q);
-    if g.rule != RULE_COUNT {
-        let d = stop_in(words, descriptors, names, sets, fields, q, g.rule);
-        if d.to < CONTAINERS {
-            return Answer::Modify(g.rule, d.to, d.gained);
-        }
-        return Answer::Inhibit(g.rule);
+    match give_in(m, q) {
+        Ok(gained) => Answer::Allow(gained),
+        Err(k) => match stop_in(m, q, k) {
+            Some(d) => Answer::Modify(k, d.to, d.gained),
+            None => Answer::Inhibit(k),
+        },
     }
-    Answer::Allow(g.gained)
+}
+
+// What a call of any five bytes gets. The rules stay as they are, byte for byte.
+pub fn call_in(m: &mut Monitor, q: Call) -> Answer
+    ensures answers { Answers m.old (a_call (call_in q)) (record { answer = result; monitor = m.new }) }
+    ensures rules { m.new.rules ≡ m.old.rules }
+{
+    match admit(&m.tracker, q) {
+        Ok(known) => admitted(m, known),
+        Err(refusal) => Answer::Refused(refusal),
+    }
 }
 
 // The same, as a number: through the library an answer itself would lie in memory.
-pub fn call_code(
-    words: &mut [u64; 353],
-    descriptors: &mut [u8; 512],
-    names: &mut [u8; 128],
-    sets: &[u64; 32],
-    fields: &[u8; 129],
-    q: Call,
-) -> u32
-    ensures { Coded (Answers (monitor words.old descriptors.old names.old sets.now fields.now) (a_call (call_in q))) result (monitor words.new descriptors.new names.new sets.now fields.now) }
+pub fn call_code(m: &mut Monitor, q: Call) -> u32
+    ensures coded { Coded (Answers m.old (a_call (call_in q))) result m.new }
+    ensures rules { m.new.rules ≡ m.old.rules }
 {
-    let answer = call_in(words, descriptors, names, sets, fields, q);
-    code(answer)
+    code(call_in(m, q))
+}
+
+// Loads a rule, where it may be. Answers its number.
+fn load(m: &mut Monitor, rule: Rule) -> Result<u8, Refusal>
+    ensures { Answers m.old (a_rule (rule_in rule)) (record { answer = loaded_by result; monitor = m.new }) }
+{
+    unfit(rule)?;
+    let k = m.rules.count();
+    if Monitor::RULES <= k {
+        return Err(Refusal::RulesFull);
+    }
+    if breaks_now(&m.tracker.words, rule) {
+        return Err(Refusal::BrokenAlready);
+    }
+    m.rules.store(rule);
+    Ok(k)
 }
 
 // What a rule gets.
-fn load_in(
-    words: &[u64; 353],
-    sets: &mut [u64; 32],
-    fields: &mut [u8; 129],
-    rule: RuleFields,
-) -> Answer
-    ensures { (d n : List ℕ) → Answers (monitor words.now d n sets.old fields.old) (a_rule (rule_from rule)) (record { answer = result; monitor = monitor words.now d n sets.new fields.new }) }
+fn load_in(m: &mut Monitor, rule: Rule) -> Answer
+    ensures { Answers m.old (a_rule (rule_in rule)) (record { answer = result; monitor = m.new }) }
 {
-    let n = unfit(rule);
-    if n != 0 {
-        return Answer::Refused(n);
-    }
-    let k = count(fields);
-    if RULE_COUNT <= k {
-        return Answer::Refused(11);
-    }
-    if breaks_now(words, rule) {
-        return Answer::Refused(12);
-    }
-    stored::store(sets, fields, rule);
-    Answer::Loaded(k)
-}
-
-// The call of five bytes.
-fn call(kind: u8, process: u8, a: u8, b: u8, c: u8) -> Call
-    ensures { result ≡ record { kind = kind; process = process; a = a; b = b; c = c } }
-{
-    Call {
-        kind,
-        process,
-        a,
-        b,
-        c,
-    }
-}
-
-// The rule of these fields.
-fn rule(tag: u8, item: u8, set: u64, action: u8, substitute: u8) -> RuleFields
-    ensures { result ≡ record { tag = tag; item = item; set = set; action = action; substitute = substitute } }
-{
-    RuleFields {
-        tag,
-        item,
-        set,
-        action,
-        substitute,
+    match load(m, rule) {
+        Ok(k) => Answer::Loaded(k),
+        Err(refusal) => Answer::Refused(refusal),
     }
 }
 
 // What the record at the front of the bytes gets.
-pub fn answer_in(
-    words: &mut [u64; 353],
-    descriptors: &mut [u8; 512],
-    names: &mut [u8; 128],
-    sets: &mut [u64; 32],
-    fields: &mut [u8; 129],
-    bytes: &[u8],
-) -> Answer
-    ensures { AnswersRecord (monitor_before words descriptors names sets fields) bytes.now (record { answer = result; monitor = monitor_after words descriptors names sets fields }) }
+pub fn answer_in(m: &mut Monitor, bytes: &[u8]) -> Answer
+    ensures { AnswersRecord m.old bytes.now (record { answer = result; monitor = m.new }) }
 {
-    let record = read(bytes);
-    match record {
-        Record::Unreadable(n) => Answer::Refused(n),
-        Record::Call(kind, process, a, b, c) => {
-            let q = call(kind, process, a, b, c);
-            call_in(words, descriptors, names, sets, fields, q)
-        }
-        Record::Forbid(item, set, action, substitute) => {
-            let r = rule(FORBID_TAG, item, set, action, substitute);
-            load_in(words, sets, fields, r)
-        }
-        Record::Separate(item, other, action, substitute) => {
-            let r = rule(SEPARATE_TAG, item, other as u64, action, substitute);
-            load_in(words, sets, fields, r)
-        }
-        Record::Confine(item, set, action, substitute) => {
-            let r = rule(CONFINE_TAG, item, set, action, substitute);
-            load_in(words, sets, fields, r)
-        }
+    match read(bytes) {
+        Ok(Record::Call(q)) => call_in(m, q),
+        Ok(Record::Rule(rule)) => load_in(m, rule),
+        Err(refusal) => Answer::Refused(refusal),
     }
 }
 
 // The same, as a number.
-pub fn answer_code(
-    words: &mut [u64; 353],
-    descriptors: &mut [u8; 512],
-    names: &mut [u8; 128],
-    sets: &mut [u64; 32],
-    fields: &mut [u8; 129],
-    bytes: &[u8],
-) -> u32
-    ensures { Coded (AnswersRecord (monitor_before words descriptors names sets fields) bytes.now) result (monitor_after words descriptors names sets fields) }
+pub fn answer_code(m: &mut Monitor, bytes: &[u8]) -> u32
+    ensures { Coded (AnswersRecord m.old bytes.now) result m.new }
 {
-    let record = read(bytes);
-    match record {
-        Record::Unreadable(n) => code(Answer::Refused(n)),
-        Record::Call(kind, process, a, b, c) => {
-            let q = call(kind, process, a, b, c);
-            call_code(words, descriptors, names, sets, fields, q)
-        }
-        Record::Forbid(item, set, action, substitute) => {
-            let r = rule(FORBID_TAG, item, set, action, substitute);
-            code(load_in(words, sets, fields, r))
-        }
-        Record::Separate(item, other, action, substitute) => {
-            let r = rule(SEPARATE_TAG, item, other as u64, action, substitute);
-            code(load_in(words, sets, fields, r))
-        }
-        Record::Confine(item, set, action, substitute) => {
-            let r = rule(CONFINE_TAG, item, set, action, substitute);
-            code(load_in(words, sets, fields, r))
-        }
-    }
+    code(answer_in(m, bytes))
 }
 
-// Answers the records of a log in order. Each answer goes to the front of `codes` as a number.
-pub fn run_in(
-    words: &mut [u64; 353],
-    descriptors: &mut [u8; 512],
-    names: &mut [u8; 128],
-    sets: &mut [u64; 32],
-    fields: &mut [u8; 129],
-    log: &[u8],
-    codes: &mut [u32],
-) -> Reply
-    ensures { AnswersLog (monitor_before words descriptors names sets fields) log.now codes.old (record { reply = result; monitor = monitor_after words descriptors names sets fields }) codes.new }
+// Answers the records of a log in order. Each answer goes to the front of `codes` as a number, and the reply is how many they are: so C takes
+// them. They are counted beside, since of codes lent by iter_mut under a zip a proof knows no element afterwards.
+pub fn run_in(m: &mut Monitor, log: &[u8], codes: &mut [u32]) -> Reply
+    ensures { AnswersLog m.old log.now codes.old (record { reply = result; monitor = m.new }) codes.new }
 {
     if !has_room(log, codes.len()) {
-        return Reply::Refused(13);
+        return Err(Refusal::SliceShort);
     }
-    let mut at = 0usize;
     let mut n = 0usize;
-    while at < log.len() {
-        let end = end_after(log, at);
-        codes[n] = answer_code(words, descriptors, names, sets, fields, &log[at..end]);
-        at = end;
+    for record in LogReader::new(log) {
+        codes[n] = answer_code(m, record);
         n += 1;
     }
-    Reply::Result(n as u64)
+    Ok(n as u64)
 }

@@ -7,19 +7,13 @@ ghost use Rattle.decision.specs.Answers.{word_of};
 ghost use Rattle.decision.specs.Logs.{code_of};
 
 use crate::Answer;
-use logreader::end_after;
+use logreader::LogReader;
 
 // The number of records in a log.
 fn records_in(log: &[u8]) -> usize
     ensures { result ≡ length (records_of log.now) }
 {
-    let mut at = 0usize;
-    let mut n = 0usize;
-    while at < log.len() {
-        at = end_after(log, at);
-        n += 1;
-    }
-    n
+    LogReader::new(log).count()
 }
 
 // Whether there is room for one code a record. A record is at least three bytes long, but for the last; where that is not enough to know,
@@ -47,7 +41,7 @@ fn size(x: u64) -> u32
     1 + sets::count(more)
 }
 
-// An answer as a number.
+// An answer as a number, since C has no such enum. The sums are those of `code_of`.
 pub fn code(answer: Answer) -> u32
     ensures { result ≡ code_of (word_of answer) }
 {
@@ -56,6 +50,14 @@ pub fn code(answer: Answer) -> u32
         Answer::Inhibit(n) => 1 + 256 * (n as u32),
         Answer::Modify(n, c, g) => 2 + 256 * (n as u32) + 65536 * (c as u32) + 16777216 * size(g),
         Answer::Loaded(n) => 3 + 256 * (n as u32),
-        Answer::Refused(n) => 4 + 256 * (n as u32),
+        Answer::Refused(refusal) => 4 + 256 * (refusal.number() as u32),
+    }
+}
+
+impl From<Answer> for u32 {
+    ghost from_gives = { λ answer n. n ≡ code_of (word_of answer) };
+
+    fn from(answer: Answer) -> u32 {
+        code(answer)
     }
 }

@@ -1,8 +1,7 @@
 -- Answers in numbers, for callers in C.
 use Rattle.std.specs.Prelude.{ℕ, ◌≡◌, List, length}
 use Rattle.flow.specs.Queries.{Reply as Word, refuse, result, items_query, holders_query, holders_slice}
-use Rattle.tracker.specs.declared.queries.Reply.{Reply}
-use Rattle.tracker.specs.Replies.{reply_of}
+use Rattle.tracker.specs.Replies.{Reply, reply_of}
 use Rattle.decision.specs.declared.Monitor.{Monitor}
 use Rattle.decision.specs.View.{view}
 use Rattle.decision.specs.Logs.{AnswersLog}

@@ -1,17 +1,15 @@
 -- Document 01, The records: what stands at a place of a log.
-use Rattle.std.specs.Prelude.{ℕ, ◌+◌, true, false, List, leb, length, drop}
+use Rattle.std.specs.Prelude.{ℕ, ◌+◌, true, false, List, leb, length, drop, Option, Some, None}
 use Rattle.records.specs.Reading.{extent_of}
-use Rattle.logreader.specs.declared.Found.{Found}
-use Rattle.logreader.specs.declared.Found.TheVariants.{Record, End}
 
--- nothing past the end, else the record there, whole or cut short, with the place after it
-unfoldable pub record_at : List ℕ → ℕ → Found
-record_at log at = elim (leb (length log) at) [ true ↦ End | false ↦ Record (at + extent_of (drop at log)) ]
+-- nothing past the end, else where the record there ends, whole or cut short
+unfoldable pub record_at : List ℕ → ℕ → Option ℕ
+record_at log at = elim (leb (length log) at) [ true ↦ None | false ↦ Some (at + extent_of (drop at log)) ]
 
 -- the place after what stands there
-unfoldable pub end_of : ℕ → Found → ℕ
-end_of at (Record end) = end
-end_of at End = at
+unfoldable pub end_of : ℕ → Option ℕ → ℕ
+end_of at (Some end) = end
+end_of at None = at
 
 abbrev pub end_after : List ℕ → ℕ → ℕ
 end_after log at = end_of at (record_at log at)

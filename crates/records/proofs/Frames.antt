@@ -4,16 +4,15 @@ use native.Mathlib.Omega.{arith}
 use mathlib.Core.Path.{◌≡◌, refl, sym, ap, ◌∙◌}
 use mathlib.Core.Bool.{Bool, false, not}
 use mathlib.Core.List.{List, [], ◌∷◌}
-use mathlib.Core.Option.{none}
+use mathlib.Core.Option.{none, some}
 use lib.Dec.{eqb}
 use lib.ListN.{get_or, length, take, drop}
 use lib.Seq.{drop-cons}
-use borrow.Author.Tests.{ltb-false, not-false, eqb-true, ne_eqb}
-use Rattle.flow.specs.Lists.{table_from, ◌⇒◌, first_that, refusal_from}
+use borrow.Author.Tests.{ltb-false, not-false, eqb-true}
+use Rattle.flow.specs.Lists.{table_from, ◌⇒◌, first_that}
 use Rattle.flow.specs.Box.{forbid, separate, confine}
-use Rattle.flow.specs.Records.{byte_at, tag_of, call_tag, forbid_tag, separate_tag, stated_length, record_length, value_of, cut_short, known_tag, tag_length, wrong_length, call_from, call_in, condition_of, number_from, set_in, rule_with, rule_in, unreadable, a_call, a_rule, frame_tests, content_of, reading_by, reading}
+use Rattle.flow.specs.Records.{byte_at, tag_of, call_tag, forbid_tag, separate_tag, confine_tag, stated_length, record_length, value_of, cut_short, known_tag, tag_length, wrong_length, call_from, call_in, condition_of, number_from, set_in, rule_with, rule_in, unreadable, a_call, a_rule, frame_tests, content_of, reading_by, reading}
 use Rattle.records.specs.Reading.{header_tests}
-use Rattle.flow.proofs.Bools.{chosen_r}
 use Rattle.flow.proofs.TableLaws.{AllNone, all_none, untrue}
 
 -- the three tests, each by its value
@@ -33,11 +32,6 @@ pub uncut : (bytes : List ℕ) (tag stated : ℕ) → cut_short bytes ≡ false 
 unfolding frame_tests wrong_length first_that ◌⇒◌
 uncut bytes tag stated e f g = rw (f, g, e)
 
--- a tag that is neither a call's nor a separation's
-pub length_other : (t : ℕ) → (t ≡ call_tag → ⊥) → (t ≡ separate_tag → ⊥) → 11 ≡ tag_length t
-unfolding tag_length
-length_other t h k = sym (chosen_r (eqb t call_tag) 5 _ (ne_eqb t call_tag h) ∙ chosen_r (eqb t separate_tag) 4 11 (ne_eqb t separate_tag k))
-
 -- n elements of a list, from k on
 part : (n k : ℕ) (l : List ℕ) → k + n ≤ length l → take n (drop k l) ≡ table_from n k (byte_at l)
 unfolding table_from byte_at
@@ -45,10 +39,9 @@ part zero k l h = refl
 part (suc n) k l h = rw (drop-cons l k 0 (omega arith)) (ap (λ (t : List ℕ). get_or l k 0 ∷ t) (part n (suc k) l (omega arith)))
 
 -- a refusal's number is read as that refusal
-pub unread : (bytes : List ℕ) (n : ℕ) → (n ≡ 0 → ⊥) → refusal_from n ≡ first_that (frame_tests bytes) → unreadable n ≡ reading bytes
-unfolding refusal_from reading reading_by
-unread bytes zero h e = absurd (h refl)
-unread bytes (suc n) h e = rw (← e)
+pub unread : (bytes : List ℕ) (n : ℕ) → some n ≡ first_that (frame_tests bytes) → unreadable n ≡ reading bytes
+unfolding reading reading_by
+unread bytes n e = rw (← e)
 
 -- ---- a record that none of the three tests refuses
 module _ (bytes : List ℕ) (whole : first_that (frame_tests bytes) ≡ none) where
@@ -56,6 +49,14 @@ module _ (bytes : List ℕ) (whole : first_that (frame_tests bytes) ≡ none) wh
   frame : (cut_short bytes ≡ false) × (wrong_length bytes ≡ false)
   unfolding frame_tests AllNone
   frame = let h = all_none (frame_tests bytes) whole in (untrue _ 1 h.0, untrue _ 3 h.1.1.0)
+
+  -- its value is there
+  pub fits : 3 + tag_length (tag_of bytes) ≤ length bytes
+  unfolding wrong_length cut_short record_length
+  fits =
+      let stated : stated_length bytes ≡ tag_length (tag_of bytes) = eqb-true _ _ (not-false _ frame.1) in
+      let there : 3 + stated_length bytes ≤ length bytes = ltb-false _ _ frame.0 in
+      omega arith
 
   -- its value is the bytes after the header
   value : (n : ℕ) → n ≡ tag_length (tag_of bytes) → value_of bytes ≡ table_from n 3 (byte_at bytes)
@@ -79,8 +80,7 @@ module _ (bytes : List ℕ) (whole : first_that (frame_tests bytes) ≡ none) wh
   unfolding reading reading_by content_of rule_in condition_of rule_with table_from tag_length byte_at
   separate_read e = rw (whole, content_of, e, value 4 (rw e), e)
 
-  pub confine_read : (tag_of bytes ≡ call_tag → ⊥) → (tag_of bytes ≡ forbid_tag → ⊥) → (tag_of bytes ≡ separate_tag → ⊥)
+  pub confine_read : tag_of bytes ≡ confine_tag
       → reading bytes ≡ a_rule (record { condition = confine (byte_at bytes 3) (number_from 0 (table_from 8 4 (byte_at bytes))); action = byte_at bytes 12; substitute = byte_at bytes 13 })
-  unfolding reading reading_by content_of rule_in condition_of set_in rule_with table_from byte_at
-  confine_read h k m =
-      rw (whole, content_of, ne_eqb (tag_of bytes) call_tag h, rule_in, ne_eqb (tag_of bytes) separate_tag m, condition_of, ne_eqb (tag_of bytes) forbid_tag k, ne_eqb (tag_of bytes) separate_tag m, value 11 (length_other (tag_of bytes) h m))
+  unfolding reading reading_by content_of rule_in condition_of set_in rule_with table_from tag_length byte_at
+  confine_read e = rw (whole, content_of, e, value 11 (rw e), e)

@@ -1,160 +1,187 @@
 // The record at the front of a byte slice (document 01, The records), and how far it goes.
 #![tactic(auto)]
 
-ghost use Rattle.std.specs.Prelude.{◌≡◌, [], ◌∷◌};
-ghost use Rattle.flow.specs.Lists.{table_from, first_that, refusal_from};
-ghost use Rattle.flow.specs.Records.{byte_at, stated_length, cut_short, known_tag, tag_length, number_from, frame_tests, reading};
+ghost use Rattle.std.specs.Prelude.{◌≡◌, ◌+◌, ◌<◌, ◌≤◌, length, IfOk};
+ghost use Rattle.flow.specs.Lists.{table_from, first_that};
+ghost use Rattle.flow.specs.Records.{byte_at, tag_of, stated_length, cut_short, tag_length, call_from, number_from, rule_with, frame_tests, reading};
+ghost use Rattle.terms.specs.Refusals.{refused};
+ghost use Rattle.terms.specs.Calls.{call_in};
+ghost use Rattle.terms.specs.Rules.{condition_in, rule_in};
+ghost use Rattle.records.specs.Tags.{tag_number, end_of, IsTagOf};
 ghost use Rattle.records.specs.Reading.{extent_of, header_tests, reading_of};
 
-const CALL_TAG: u8 = 0x10;
+use terms::call::Call;
+use terms::refusal::Refusal;
+use terms::rule::{Condition, Rule};
 
-const FORBID_TAG: u8 = 0x11;
+const CALL_TAG: u8 = Tag::Call as u8;
 
-const SEPARATE_TAG: u8 = 0x12;
+/// What a record's tag says that it has.
+#[derive(Clone, Copy, Debug, PartialEq, Eq)]
+enum Tag {
+    Call = 0x10,
+    Forbid = 0x11,
+    Separate = 0x12,
+    Confine = 0x13,
+}
 
-const CONFINE_TAG: u8 = 0x13;
+impl TryFrom<u8> for Tag {
+    type Error = Refusal;
 
-// A record's fields, or the refusal of what cannot be read as one.
-#[derive(Clone, Copy)]
+    ghost try_from_gives = { IsTagOf };
+
+    fn try_from(number: u8) -> Result<Self, Refusal> {
+        match number {
+            0x10 => Ok(Tag::Call),
+            0x11 => Ok(Tag::Forbid),
+            0x12 => Ok(Tag::Separate),
+            0x13 => Ok(Tag::Confine),
+            _ => Err(Refusal::UnknownTag),
+        }
+    }
+}
+
+impl Tag {
+    // The length of its value.
+    fn length(self) -> u16
+        ensures { result ≡ tag_length (tag_number self) }
+    {
+        match self {
+            Tag::Call => 5,
+            Tag::Separate => 4,
+            Tag::Forbid | Tag::Confine => 11,
+        }
+    }
+}
+
+/// A record that can be read.
+#[derive(Clone, Copy, Debug, PartialEq, Eq)]
 pub enum Record {
-    Unreadable(u8),
-    // Tag 10 hex: kind, process, a, b, c.
-    Call(u8, u8, u8, u8, u8),
-    // Tag 11 hex: item, set, action, substitute.
-    Forbid(u8, u64, u8, u8),
-    // Tag 12 hex: two items, action, substitute.
-    Separate(u8, u8, u8, u8),
-    // Tag 13 hex: item, set, action, substitute.
-    Confine(u8, u64, u8, u8),
+    Call(Call),
+    Rule(Rule),
 }
 
 // The byte at i, 0 past the end.
 fn at(bytes: &[u8], i: usize) -> u8
     ensures { result ≡ byte_at bytes.now i }
 {
-    if i < bytes.len() {
-        return bytes[i];
-    }
-    0
+    bytes.get(i).copied().unwrap_or(0)
 }
 
 // The length that the header states.
 fn stated_length(bytes: &[u8]) -> u16
     ensures { result ≡ stated_length bytes.now }
 {
-    256 * (at(bytes, 1) as u16) + (at(bytes, 2) as u16)
+    u16::from_be_bytes([at(bytes, 1), at(bytes, 2)])
 }
 
 // Whether header or value runs past the end.
 fn cut_short(bytes: &[u8]) -> bool
     ensures { result ≡ cut_short bytes.now }
 {
-    bytes.len() < 3 + (stated_length(bytes) as usize)
+    bytes.len() < 3 + usize::from(stated_length(bytes))
 }
 
-// Whether a tag is 10 to 13 hex.
-fn known(tag: u8) -> bool
-    ensures { result ≡ known_tag tag }
+// The tag of this number, if it is one and its length is the one stated.
+fn header(number: u8, stated: u16) -> Result<Tag, Refusal>
+    ensures refusal { refused result ≡ first_that (header_tests number stated) }
+    ensures tag { IfOk result (λ t. tag_number t ≡ number) }
 {
-    (tag == CALL_TAG) | (tag == FORBID_TAG) | (tag == SEPARATE_TAG) | (tag == CONFINE_TAG)
+    let tag = Tag::try_from(number)?;
+    if stated != tag.length() {
+        return Err(Refusal::WrongLength);
+    }
+    Ok(tag)
 }
 
-// The length of a known tag's value.
-fn length_of(tag: u8) -> u16
-    ensures { result ≡ tag_length tag }
-{
-    if tag == CALL_TAG {
-        5
-    } else if tag == SEPARATE_TAG {
-        4
-    } else {
-        11
-    }
-}
-
-// 2 or 3 where tag and stated length are not those of a record, else 0.
-fn unfit(tag: u8, stated: u16) -> u8
-    ensures { refusal_from result ≡ first_that (header_tests tag stated) }
-{
-    if !known(tag) {
-        return 2;
-    }
-    let wanted = length_of(tag);
-    if stated != wanted {
-        return 3;
-    }
-    0
-}
-
-// The refusal of what cannot be read, 0 where there is none. A call's tag is asked apart, so that the compiler knows its length.
-fn refusal(bytes: &[u8]) -> u8
-    ensures { refusal_from result ≡ first_that (frame_tests bytes.now) }
+// The tag of a record that none of the three tests refuses: all its bytes are there.
+fn frame(bytes: &[u8]) -> Result<Tag, Refusal>
+    ensures refusal { refused result ≡ first_that (frame_tests bytes.now) }
+    ensures tag { IfOk result (λ t. tag_number t ≡ tag_of bytes.now) }
+    ensures whole { IfOk result (λ t. end_of t ≤ length bytes.now) }
 {
     if cut_short(bytes) {
-        return 1;
+        return Err(Refusal::CutShort);
     }
-    let tag = at(bytes, 0);
+    let number = at(bytes, 0);
     let stated = stated_length(bytes);
-    if tag == CALL_TAG {
-        return unfit(CALL_TAG, stated);
+    // A call's tag is asked apart, so that the compiler knows its length.
+    if number == CALL_TAG {
+        return header(CALL_TAG, stated);
     }
-    unfit(tag, stated)
+    header(number, stated)
 }
 
-// The number of four bytes, high byte first.
-fn number(a: u8, b: u8, c: u8, d: u8) -> u32
-    ensures { result ≡ number_from 0 (a ∷ b ∷ c ∷ d ∷ []) }
+// The call of a record's five bytes.
+fn call(bytes: &[u8]) -> Call
+    requires { 8 ≤ length bytes.now }
+    ensures { call_in result ≡ call_from (byte_at bytes.now 3) (byte_at bytes.now 4) (byte_at bytes.now 5)
+        (byte_at bytes.now 6) (byte_at bytes.now 7) }
 {
-    256 * (256 * (256 * (a as u32) + (b as u32)) + (c as u32)) + (d as u32)
+    Call {
+        kind: bytes[3],
+        process: bytes[4],
+        a: bytes[5],
+        b: bytes[6],
+        c: bytes[7],
+    }
 }
 
 // The set of a rule: eight bytes, after header and item.
 fn set_of(bytes: &[u8]) -> u64
+    requires { 12 ≤ length bytes.now }
     ensures { result ≡ number_from 0 (table_from 8 4 (byte_at bytes.now)) }
 {
-    let high = number(at(bytes, 4), at(bytes, 5), at(bytes, 6), at(bytes, 7));
-    let low = number(at(bytes, 8), at(bytes, 9), at(bytes, 10), at(bytes, 11));
-    0x1_0000_0000 * (high as u64) + (low as u64)
+    // Byte by byte: an array made of a slice is a Result, of which a proof would have to say that it is no error.
+    u64::from_be_bytes([
+        bytes[4], bytes[5], bytes[6], bytes[7], bytes[8], bytes[9], bytes[10], bytes[11],
+    ])
 }
 
-// The record at the front of the bytes.
-pub fn read(bytes: &[u8]) -> Record
+// The rule of a condition, whose action and substitute stand at n.
+fn rule_with(condition: Condition, bytes: &[u8], n: usize) -> Rule
+    requires { n + 1 < length bytes.now }
+    ensures { rule_in result ≡ rule_with (condition_in condition) bytes.now n }
+{
+    Rule {
+        condition,
+        action: bytes[n],
+        substitute: bytes[n + 1],
+    }
+}
+
+/// The record at the front of the bytes, or why it cannot be read.
+pub fn read(bytes: &[u8]) -> Result<Record, Refusal>
     ensures { reading_of result ≡ reading bytes.now }
 {
-    let n = refusal(bytes);
-    if n != 0 {
-        return Record::Unreadable(n);
+    // In full, so that each tag's bytes stand beside it.
+    match frame(bytes)? {
+        Tag::Call => Ok(Record::Call(call(bytes))),
+        Tag::Forbid => {
+            let item = bytes[3];
+            let set = set_of(bytes);
+            Ok(Record::Rule(rule_with(Condition::Forbid { item, set }, bytes, 12)))
+        }
+        Tag::Separate => {
+            let item = bytes[3];
+            let other = u64::from(bytes[4]);
+            Ok(Record::Rule(rule_with(Condition::Separate { item, other }, bytes, 5)))
+        }
+        Tag::Confine => {
+            let item = bytes[3];
+            let set = set_of(bytes);
+            Ok(Record::Rule(rule_with(Condition::Confine { item, set }, bytes, 12)))
+        }
     }
-    let tag = at(bytes, 0);
-    let first = at(bytes, 3);
-    if tag == CALL_TAG {
-        return Record::Call(
-            first,
-            at(bytes, 4),
-            at(bytes, 5),
-            at(bytes, 6),
-            at(bytes, 7),
-        );
-    }
-    if tag == SEPARATE_TAG {
-        return Record::Separate(first, at(bytes, 4), at(bytes, 5), at(bytes, 6));
-    }
-    let set = set_of(bytes);
-    let action = at(bytes, 12);
-    let substitute = at(bytes, 13);
-    if tag == FORBID_TAG {
-        return Record::Forbid(first, set, action, substitute);
-    }
-    Record::Confine(first, set, action, substitute)
 }
 
-// The number of bytes of the record at the front.
+/// The number of bytes of the record at the front.
 pub fn extent(bytes: &[u8]) -> usize
     ensures { result ≡ extent_of bytes.now }
 {
     if cut_short(bytes) {
         bytes.len()
     } else {
-        3 + (stated_length(bytes) as usize)
+        3 + usize::from(stated_length(bytes))
     }
 }

@@ -2,8 +2,8 @@
 use Prim.Native.Nat.{ℕ, ◌%◌, ◌^◌, ◌<◌}
 use mathlib.Core.Path.{◌≡◌, refl, sym, ap, ◌∙◌}
 use native.Mathlib.Omega.{arith}
-use mathlib.Core.Bool.{false, ◌&&◌, ◌||◌, or-false}
-use lib.Dec.{eqb, ltb}
+use mathlib.Core.Bool.{Bool, false, ◌&&◌, ◌||◌, or-false}
+use lib.Dec.{eqb}
 use borrow.Author.Tests.{eqb-true, eqb-false, eq-eqb, ne_eqb}
 use Rattle.sets.specs.Sets.{has}
 use Rattle.sets.proofs.Members.{mod_out}
@@ -11,9 +11,8 @@ use Rattle.flow.specs.Box.{Condition, forbid, separate, confine, Rule, State, it
 use Rattle.flow.specs.Lists.{some_below}
 use Rattle.flow.specs.Rules.{breaks, broken}
 use Rattle.flow.specs.Records.{condition_of}
-use Rattle.flow.specs.Refusals.{items_fit, same_items}
-use Rattle.flow.proofs.Bools.{by, and_false_r, or_false_l, or_false_r, or_false_i, chosen_l, chosen_r}
-use Rattle.rules.specs.Judging.{touches, breaks_with, broken_in}
+use Rattle.flow.proofs.Bools.{by, or_false_l, or_false_r, or_false_i, chosen_l, chosen_r}
+use Rattle.rules.specs.Judging.{touches, by_rests, breaks_with, broken_in}
 
 module _ (tag item set : ℕ) where
   pub forbids_by : tag ≡ 0x11 → condition_of tag item set ≡ forbid item set
@@ -29,34 +28,23 @@ module _ (tag item set : ℕ) where
   unfolding condition_of
   confines_by e n = chosen_r (eqb tag 0x11) _ _ (ne_eqb tag 0x11 n) ∙ chosen_r (eqb tag 0x12) _ _ (ne_eqb tag 0x12 e)
 
-  -- what holds of the two conditions with a set holds of every tag's but 12 hex
-  pub by_set : (P : Condition → Type 0) → (tag ≡ 0x12 → ⊥) → P (forbid item set) → P (confine item set) → P (condition_of tag item set)
-  by_set P e f g = by (eqb tag 0x11) (λ q. rw (forbids_by (eqb-true tag 0x11 q)) f) (λ q. rw (confines_by e (eqb-false tag 0x11 q)) g)
-
-  pub items_fit_by_set : (tag ≡ 0x12 → ⊥) → ltb item 64 ≡ items_fit (condition_of tag item set)
-  unfolding items_fit
-  items_fit_by_set e = by_set (λ c. ltb item 64 ≡ items_fit c) e refl refl
-
-  pub same_items_by_set : (tag ≡ 0x12 → ⊥) → false ≡ same_items (condition_of tag item set)
-  unfolding same_items
-  same_items_by_set e = by_set (λ c. false ≡ same_items c) e refl refl
-
-  -- it speaks of an item of the set x
-  pub touches_is : (x : ℕ) → touches x (condition_of tag item set) ≡ (has x item || (eqb tag 0x12 && has x set))
-  unfolding touches
+  -- by its items' rests by 64 it speaks of an item of the set x
+  pub touches_is : (x : ℕ) → touches x (by_rests (condition_of tag item set)) ≡ (has x (item % 64) || (eqb tag 0x12 && has x (set % 64)))
+  unfolding touches by_rests
   touches_is x =
-      by (eqb tag 0x12) (λ q. ap (touches x) (separates_by (eqb-true tag 0x12 q)) ∙ rw q refl)
-      (λ q. rw q (by_set (λ c. touches x c ≡ (has x item || false)) (eqb-false tag 0x12 q) (sym (or-false (has x item))) (sym (or-false (has x item)))))
+      by (eqb tag 0x12) (λ q. ap near (separates_by (eqb-true tag 0x12 q)) ∙ rw q refl)
+      (λ q. rw q (by (eqb tag 0x11) (λ p. ap near (forbids_by (eqb-true tag 0x11 p)) ∙ sym (or-false _)) (λ p. ap near (confines_by (eqb-false tag 0x12 q) (eqb-false tag 0x11 p)) ∙ sym (or-false _))))
+    where
+      near : Condition → Bool
+      near c = touches x (by_rests c)
 
--- where it speaks of none by the rests of its numbers by 64
-pub touches_rest : (tag item set x : ℕ) → x < 2 ^ 64 → touches x (condition_of tag (item % 64) (set % 64)) ≡ false → touches x (condition_of tag item set) ≡ false
-touches_rest tag item set x h e =
-    let w = sym (touches_is tag (item % 64) (set % 64) x) ∙ e in
-    touches_is tag item set x
-    ∙ or_false_i (has x item) _ (mod_out x item h (or_false_l _ (eqb tag 0x12 && has x (set % 64)) w))
-    (by (eqb tag 0x12)
-    (λ q. rw q (mod_out x set h (and_false_r (eqb tag 0x12) _ q (or_false_r (has x (item % 64)) _ w))))
-    (λ q. rw q refl))
+-- where it speaks of none by its items' rests by 64
+pub touches_rest : (c : Condition) (x : ℕ) → x < 2 ^ 64 → touches x (by_rests c) ≡ false → touches x c ≡ false
+unfolding touches by_rests
+touches_rest (forbid i y) x h e = mod_out x i h e
+touches_rest (separate i j) x h e =
+    or_false_i (has x i) (has x j) (mod_out x i h (or_false_l (has x (i % 64)) (has x (j % 64)) e)) (mod_out x j h (or_false_r (has x (i % 64)) (has x (j % 64)) e))
+touches_rest (confine i y) x h e = mod_out x i h e
 
 -- a state breaks a rule where its items do
 some_break : (s : State) (c : Condition) → broken_in s.items c ≡ some_below 64 (λ v. breaks s c v)

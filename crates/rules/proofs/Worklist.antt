@@ -1,12 +1,12 @@
 -- A loop that takes the lowest member of a set in each turn and gathers its items, until none is left.
-use Prim.Native.Nat.{ℕ, ◌%◌, ◌<◌, ◌^◌}
+use Prim.Native.Nat.{ℕ, ◌<◌, ◌^◌}
 use native.Mathlib.Decide.{ℕ_discrete}
 use mathlib.Core.Path.{◌≡◌, refl, sym, ap, ◌∙◌}
 use mathlib.Core.Bool.{Bool, true, false, ◌&&◌, ◌||◌, and-false, or-false, or_assoc}
 use mathlib.Core.List.{List}
 use lib.ListN.{get_or}
 use Rattle.sets.specs.Sets.{has, ◌∪◌, without, lowest}
-use Rattle.sets.proofs.Members.{union_has, without_lt, without_at, without_other, none_has, member, turn_below, itself}
+use Rattle.sets.proofs.Members.{union_has, without_lt, without_at, without_other, none_has, member, turn_below}
 use Rattle.flow.specs.Lists.{some_below}
 use Rattle.flow.proofs.Bools.{by, and_i}
 use Rattle.flow.proofs.TableLaws.{some_of_lem, none_below, some_same}
@@ -53,9 +53,9 @@ module _ (items : List ℕ) (set : ℕ) where
         at e i l (yes d) = ap (λ (b : Bool). b && f i) (without_at left v i l d) ∙ sym (ap (λ (b : Bool). has left i && b) (ap f d ∙ e) ∙ and-false (has left i))
         at e i l (no d) = ap (λ (b : Bool). b && f i) (without_other left v i l d)
 
-    pub gather_more : (x later : ℕ) → x ≡ get_or items v 0 → later ≡ without left (v % 64) → Gathering items set (found ∪ x) later
+    pub gather_more : (x later : ℕ) → x ≡ get_or items v 0 → later ≡ without left (lowest left) → Gathering items set (found ∪ x) later
     gather_more x later e q =
-        let p : later ≡ without left v = q ∙ ap (without left) (itself left w.small more v is) in
+        let p : later ≡ without left v = q ∙ ap (without left) (sym is) in
         record {
           small = rw p (without_lt left v);
           same = λ i.

@@ -1,6 +1,6 @@
 -- A planned call is judged before anything is stored (01, What a record gets): which rules it breaks that were whole before it.
-use Rattle.std.specs.Prelude.{ℕ, zero, suc, ◌-◌, ◌<◌, ◌^◌, ◌≡◌, Bool, true, false, not, ◌&&◌, ◌||◌, List, eqb, get_or}
-use Rattle.std.proofs.Math.Option.{Option, none, some}
+use Rattle.std.specs.Prelude.{ℕ, zero, suc, ◌%◌, ◌≤◌, ◌<◌, ◌^◌, ◌≡◌, Bool, true, false, not, ◌&&◌, ◌||◌, List, eqb, get_or, Option, MatchOption, IfSome, unwrap_or}
+use Rattle.std.proofs.Math.Option.{Option as Maybe, none, some}
 use Rattle.sets.specs.Sets.{has, ◌∪◌, ◌∩◌}
 use Rattle.flow.specs.Lists.{some_below}
 use Rattle.flow.specs.Box.{container_count, Condition, forbid, separate, confine, Rule, State, holds}
@@ -61,6 +61,12 @@ touches x (forbid i y) = has x i
 touches x (separate i j) = has x i || has x j
 touches x (confine i y) = has x i
 
+-- its items' rests by 64
+unfoldable pub by_rests : Condition → Condition
+by_rests (forbid i y) = forbid (i % 64) y
+by_rests (separate i j) = separate (i % 64) (j % 64)
+by_rests (confine i y) = confine (i % 64) y
+
 -- of the n numbers from k on, the first that f holds of, and k + n where it holds of none
 unfoldable pub first_from : ℕ → ℕ → (ℕ → Bool) → ℕ
 first_from zero k f = k
@@ -74,18 +80,24 @@ first_anew items plan sets fields = first_from (count_of fields) 0 (λ k. breaks
 abbrev pub breaks_rule : List ℕ → Plan → List ℕ → List ℕ → ℕ → Bool
 breaks_rule items plan sets fields k = breaks_anew items plan (rule_at sets fields k).condition
 
--- the first of the rules from k on that it breaks anew, and the number behind them where it breaks none
-abbrev pub anew_from : List ℕ → Plan → List ℕ → List ℕ → ℕ → ℕ
-anew_from items plan sets fields k = first_from (count_of fields - k) k (breaks_rule items plan sets fields)
+-- of the numbers from k on and below n, r is the first that f holds of, if it holds of one
+abbrev pub FirstOf : (ℕ → Bool) → ℕ → ℕ → Option ℕ → Type 0
+FirstOf f k n r =
+    MatchOption r ((j : ℕ) → k ≤ j → j < n → f j ≡ false) (λ i. (k ≤ i) × (i < n) × (f i ≡ true) × ((j : ℕ) → k ≤ j → j < i → f j ≡ false))
 
--- the number that judging answers; the plan's sets are of containers
-pub record Judged (items : List ℕ) (plan : Plan) (sets fields : List ℕ) (r : ℕ) : Type 0 where
+-- the first of the rules from k on that it breaks anew
+abbrev pub AnewFrom : List ℕ → Plan → List ℕ → List ℕ → ℕ → Option ℕ → Type 0
+AnewFrom items plan sets fields k r = FirstOf (breaks_rule items plan sets fields) k (count_of fields) r
+
+-- what judging answers: the first of all loaded rules that the plan breaks anew, if it breaks one; the plan's sets are of containers
+pub record Judged (items : List ℕ) (plan : Plan) (sets fields : List ℕ) (r : Option ℕ) : Type 0 where
   pub small : plan.to < 2 ^ 64
   pub small2 : plan.to2 < 2 ^ 64
-  pub number : r ≡ first_anew items plan sets fields
+  pub number : unwrap_or r (count_of fields) ≡ first_anew items plan sets fields
+  pub below : IfSome r (λ k. k < count_of fields)
 
 -- rule number m of n, and none where m is n
-unfoldable pub found : ℕ → (ℕ → Rule) → ℕ → Option Numbered
+unfoldable pub found : ℕ → (ℕ → Rule) → ℕ → Maybe Numbered
 found n rule m = elim (eqb m n) [ true ↦ none | false ↦ some (record { number = m; rule = rule m }) ]
 
 -- ---- the present state

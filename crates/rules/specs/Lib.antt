@@ -1,2 +1,3 @@
 pub mod Stored
 pub mod Judging
+pub mod Actions

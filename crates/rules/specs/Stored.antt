@@ -4,7 +4,6 @@ use Rattle.std.specs.Prelude.{ℕ, ◌+◌, ◌*◌, ◌%◌, true, false, List,
 use Rattle.flow.specs.Lists.{table}
 use Rattle.flow.specs.Box.{container_count, rule_count, Condition, Rule}
 use Rattle.flow.specs.Records.{condition_of}
-use Rattle.rules.specs.declared.RuleFields.{RuleFields}
 
 -- ---- the places in fields
 abbrev pub fields_each : ℕ
@@ -56,10 +55,3 @@ count_of fields =
 -- the loaded rules, number 0 first
 unfoldable pub rules_of : List ℕ → List ℕ → List Rule
 rules_of sets fields = table (count_of fields) (rule_at sets fields)
-
--- ---- the rule of a record's fields
-abbrev pub condition_from : RuleFields → Condition
-condition_from r = condition_of r.tag r.item r.set
-
-abbrev pub rule_from : RuleFields → Rule
-rule_from r = record { condition = condition_from r; action = r.action; substitute = r.substitute }

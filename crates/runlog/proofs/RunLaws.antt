@@ -1,7 +1,7 @@
 -- A log that the program reads has no more records than there is room for, and its answers stand at the front.
 use Prim.Native.Nat.{ℕ, ◌+◌, ◌*◌, ◌≤◌}
 use native.Mathlib.Omega.{arith}
-use mathlib.Core.Path.{◌≡◌, sym, ap, subst, ◌∙◌}
+use mathlib.Core.Path.{◌≡◌, ap, subst, ◌∙◌}
 use mathlib.Core.Bool.{Bool, true}
 use mathlib.Core.List.{List}
 use lib.Dec.{leb}
@@ -13,9 +13,9 @@ use Rattle.flow.specs.Verdicts.{run_log}
 use Rattle.flow.specs.Queries.{Reply as Answer, refuse, result}
 use Rattle.flow.specs.Rules.{lowest_broken}
 use Rattle.flow.proofs.Keeping.{fresh_kept}
-use Rattle.tracker.specs.declared.queries.Reply.{Reply}
-use Rattle.tracker.specs.declared.queries.Reply.TheVariants.{Result, Refused}
-use Rattle.tracker.specs.Replies.{reply_of}
+use Rattle.std.specs.Prelude.{Ok, Err}
+use Rattle.std.specs.Result.{result_unwrap_or}
+use Rattle.tracker.specs.Replies.{Reply, reply_of}
 use Rattle.decision.specs.declared.Monitor.{Monitor}
 use Rattle.decision.specs.declared.RunResult.{RunResult}
 use Rattle.decision.specs.View.{view}
@@ -43,10 +43,7 @@ value_of : Answer → ℕ
 value_of (refuse n) = n
 value_of (result n) = n
 
-pub result_number : (reply : Reply) (k n : ℕ) → reply ≡ Result k → reply_of reply ≡ result n → k ≡ n
+pub reply_number : (reply : Reply) (k : ℕ) → reply_of reply ≡ result k → result_unwrap_or reply 0 ≡ k
 unfolding reply_of value_of
-result_number reply k n e h = ap value_of (sym (ap reply_of e) ∙ h)
-
-pub refused_number : (reply : Reply) (x k n : ℕ) → reply ≡ Refused k → reply_of reply ≡ result n → x ≡ n
-unfolding reply_of
-refused_number reply x k n e h = let z : refuse k ≡ result n = sym (ap reply_of e) ∙ h in absurd (let y : ◌≡◌ {A = ℕ} 0 1 = cc in let w : ⊥ = omega arith in w)
+reply_number (Ok n) k h = ap value_of h
+reply_number (Err e) k h = absurd (let y : ◌≡◌ {A = ℕ} 0 1 = cc in let w : ⊥ = omega arith in w)

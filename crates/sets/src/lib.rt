@@ -4,6 +4,10 @@
 ghost use Rattle.std.specs.Prelude.{◌≡◌, ◌%◌};
 ghost use Rattle.sets.specs.Sets.{has, only, ◌∪◌, ◌∩◌, without, count, lowest, union_of};
 
+pub mod iter;
+
+pub use iter::each;
+
 // Whether i is a member of x.
 pub fn member(x: u64, i: u8) -> bool
     ensures { result ≡ has x (i % 64) }
@@ -61,7 +65,7 @@ pub fn count(x: u64) -> u32
     u64::count_ones(x)
 }
 
-// The lowest member of x, and 64 where x is empty.
+// The lowest member of x, and 64 where x is empty, as the definition has it. An option comes of each(x).next().
 pub fn lowest(x: u64) -> u32
     ensures { result ≡ lowest x }
 {
@@ -72,9 +76,9 @@ pub fn lowest(x: u64) -> u32
 pub fn union_of(rows: &[u64]) -> u64
     ensures { result ≡ union_of rows.now }
 {
-    let mut x = 0u64;
-    for i in 0..rows.len() {
-        x = x | rows[i];
+    let mut x = 0;
+    for row in rows {
+        x |= row;
     }
     x
 }

@@ -8,10 +8,6 @@ use lib.Arith.{digits_lt}
 use lib.Pow.{pow_pos, pow-add, shr_lt, split, high, low, shr-shr, field, mod-mod-pow}
 use Rattle.store.specs.Maps.{byte_of, put_byte}
 
-pub byte_lt : (w j : ℕ) → byte_of w j < 256
-unfolding byte_of
-byte_lt w j = omega arith
-
 module _ (w j n : ℕ) (l : n < 256) where
   abbrev e : ℕ
   e = 8 * j

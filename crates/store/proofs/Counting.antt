@@ -1,9 +1,9 @@
 -- Mappings in the words: a row of counts by its sets and its bytes.
-use Prim.Native.Nat.{ℕ, zero, suc, ◌+◌, ◌/◌, ◌%◌, ◌^◌, ◌≤◌, ◌<◌}
+use Prim.Native.Nat.{ℕ, ◌+◌, ◌/◌, ◌%◌, ◌^◌, ◌≤◌, ◌<◌, max}
 use native.Mathlib.Omega.{arith}
 use native.Mathlib.Decide.{ℕ_discrete}
 use mathlib.Core.Path.{◌≡◌, refl, sym, ap, ap₂, ◌∙◌}
-use mathlib.Core.Bool.{Bool, true, false, not, ◌&&◌, ◌||◌, or-true}
+use mathlib.Core.Bool.{Bool, true, false, ◌&&◌, ◌||◌, or-true}
 use mathlib.Core.List.{List}
 use lib.Dec.{ltb, eqb}
 use lib.ListN.{length, get_or, set, length-set}
@@ -18,10 +18,6 @@ use Rattle.flow.proofs.Counts.{mapped_has, mapped_lt, none_counted, none_length}
 use Rattle.store.specs.Maps.{byte_of, count_by, row_in, maps_in, ways_in, reads_at, boths_at, read_row, both_row}
 
 -- ---- a count above 0
-pub above_zero : (n : ℕ) → ltb 0 n ≡ not (eqb n 0)
-above_zero zero = refl
-above_zero (suc n) = lt-ltb 0 (suc n) (omega arith) ∙ sym (ap not (ne_eqb (suc n) 0 (λ e. let z : ⊥ = omega arith in z)))
-
 pub not_above : (n : ℕ) → ltb 0 n ≡ false → n ≡ 0
 not_above n h = let l : n ≤ 0 = ltb-false 0 n h in omega arith
 
@@ -33,6 +29,13 @@ least_zero b e = chosen_l (eqb b 0) 1 b (eq-eqb b 0 e)
 pub least_more : (b : ℕ) → (b ≡ 0 → ⊥) → count_by true false b ≡ b
 unfolding count_by
 least_more b e = chosen_r (eqb b 0) 1 b (ne_eqb b 0 e)
+
+pub least_max : (b : ℕ) → max b 1 ≡ count_by true false b
+least_max b = go (ℕ_discrete b 0)
+  where
+    go : Dec (b ≡ 0) → max b 1 ≡ count_by true false b
+    go (yes e) = rw (least_zero b e) (omega arith)
+    go (no e) = rw (least_more b e) (omega arith)
 
 pub least_above : (b : ℕ) → 0 < count_by true false b
 least_above b = go (ℕ_discrete b 0)

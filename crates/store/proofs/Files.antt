@@ -3,21 +3,20 @@ use Prim.Native.Nat.{ℕ, ◌+◌, ◌-◌, ◌*◌, ◌≤◌, ◌<◌}
 use native.Mathlib.Omega.{arith}
 use native.Mathlib.Decide.{dec_lt}
 use mathlib.Core.Path.{◌≡◌, refl, sym, ap, ap₂, ◌∙◌}
-use mathlib.Core.Bool.{Bool, true, false, not, ◌&&◌, and_comm, and-or_distrib_left}
+use mathlib.Core.Bool.{Bool, true, false, ◌&&◌, ◌||◌, and_comm, and-or_distrib_left}
 use mathlib.Core.List.{List, [], ◌∷◌, ◌++◌}
 use lib.Dec.{ltb, leb, eqb}
-use lib.Bits.{bit_or, or_add_and, and_le_l, and_le_r}
 use lib.ListN.{length, get_or, take, drop}
+use Rattle.std.specs.Ordering.{is_le, is_lt, nat_cmp}
 use lib.Seq.{take-add, drop-drop}
-use mir.Val.{bool_byte}
-use borrow.Author.Tests.{ltb-true, leb-true, eqb-true, lt-ltb, le-ltb}
+use borrow.Author.Tests.{le-leb, lt-leb, eqb-false, ltb-true, leb-true, eqb-true, lt-ltb, le-ltb}
 use Rattle.sets.specs.Sets.{has, only, bit, those_from, those, ◌∪◌}
 use Rattle.sets.proofs.Members.{union_has, only_has, none_has, those_has, past_has, eqb_sym}
 use Rattle.sets.proofs.Unions.{all_more, union_assoc, union_comm, none_union}
 use Rattle.flow.specs.Lists.{is_in}
 use Rattle.flow.specs.Box.{is_device, is_file, is_target, slot}
 use Rattle.flow.specs.Calls.{block}
-use Rattle.flow.proofs.Bools.{and_l, and_r, by, no_both, chosen_l, chosen_r}
+use Rattle.flow.proofs.Bools.{and_l, and_r, by, or_false_l, or_false_r, chosen_l, chosen_r}
 use Rattle.flow.proofs.TableLaws.{is_in_cons}
 use Rattle.store.specs.Maps.{file_set, container_set, files_in, files}
 
@@ -59,6 +58,27 @@ files_in_more = all_more files_in ◌∪◌ file_set (λ x l. refl) union_assoc 
 pub files_in_next : (l : List ℕ) (i x y : ℕ) → i < length l → x ≡ files_in (take i l) → y ≡ file_set (get_or l i 0) → x ∪ y ≡ files_in (take (i + 1) l)
 files_in_next l i x y h e f = ap₂ ◌∪◌ e f ∙ sym (files_in_more l i h)
 
+-- the test of a range of numbers
+less_test : (a b : ℕ) → is_lt (nat_cmp a b) ≡ ltb a b
+less_test a b = go (dec_lt a b)
+  where
+    go : Dec (a < b) → is_lt (nat_cmp a b) ≡ ltb a b
+    go (yes h) = rw (lt-ltb a b h) refl
+    go (no h) = rw (le-ltb a b (omega arith)) (by (eqb a b) (λ e. rw e refl) (λ e. rw e refl))
+
+least_test : (a b : ℕ) → is_le (nat_cmp a b) ≡ leb a b
+least_test a b = go (dec_lt a b)
+  where
+    go : Dec (a < b) → is_le (nat_cmp a b) ≡ leb a b
+    go (yes h) = rw (lt-ltb a b h, le-leb a b (omega arith)) refl
+    go (no h) =
+        rw (le-ltb a b (omega arith))
+        (by (eqb a b) (λ e. let q = eqb-true a b e in rw (e, le-leb a b (omega arith)) refl) (λ e. rw (e, lt-leb a b (let n : a ≡ b → ⊥ = eqb-false a b e in omega arith)) refl))
+
+pub file_test : (e : ℕ) → (is_le (nat_cmp 24 e) && is_lt (nat_cmp e 64)) ≡ is_file e
+unfolding is_file
+file_test e = rw (least_test 24 e, less_test e 64) refl
+
 files_are : files ≡ those is_file
 unfolding those those_from bit is_file
 files_are = refl
@@ -91,23 +111,13 @@ unfolding container_set
 container_set_past e h = chosen_r (ltb e 64) (only e) 0 (le-ltb e 64 h)
 
 -- ---- entries of 64 or more
-byte_none : (b : Bool) → bool_byte b ≡ 0 → b ≡ false
-byte_none true e = absurd (let z : ⊥ = omega arith in z)
-byte_none false e = refl
-
-pub flag_none : (n : ℕ) → not (eqb n 0) ≡ false → n ≡ 0
-flag_none n e = by (eqb n 0) (λ q. eqb-true n 0 q) (λ q. no_both (ap not q) e)
-
-pub none_low : (l : List ℕ) (i found : ℕ) → i < length l → (found ≡ 0 → files_in (take i l) ≡ 0)
-    → bit_or found (bool_byte (ltb (get_or l i 0) 64)) ≡ 0 → files_in (take (i + 1) l) ≡ 0
+pub none_low : (l : List ℕ) (i : ℕ) (found : Bool) → i < length l → (found ≡ false → files_in (take i l) ≡ 0)
+    → (found || ltb (get_or l i 0) 64) ≡ false → files_in (take (i + 1) l) ≡ 0
 unfolding is_file
 none_low l i found h q e =
     let x : ℕ = get_or l i 0 in
-    let b : ℕ = bool_byte (ltb x 64) in
-    let p : found ≡ 0 = omega (arith, or_add_and found b, and_le_r found b) in
-    let r : bool_byte (ltb x 64) ≡ 0 = omega (arith, or_add_and found b, and_le_l found b) in
-    let s : is_file x ≡ false = rw (byte_none (ltb x 64) r, and_comm (leb 24 x) false) in
-    files_in_more l i h ∙ ap₂ ◌∪◌ (q p) (file_set_none x s) ∙ none_union 0
+    let s : is_file x ≡ false = rw (or_false_r found (ltb x 64) e, and_comm (leb 24 x) false) in
+    files_in_more l i h ∙ ap₂ ◌∪◌ (q (or_false_l found (ltb x 64) e)) (file_set_none x s) ∙ none_union 0
 
 -- ---- two parts of a list
 files_in_append : (k l : List ℕ) → files_in (k ++ l) ≡ files_in k ∪ files_in l

@@ -78,13 +78,6 @@ pub record Lacking (x : ℕ) (items₀ : List ℕ) (r : ℕ) (items : List ℕ) 
   pub untouched : (c : ℕ) → has left c ≡ true → get_or items c 0 ≡ get_or items₀ c 0
   pub told : (c : ℕ) → c < 64 → has lacked c ≡ elim (has left c) as (λ z. Bool) [ true ↦ true | false ↦ has r c && has_more (get_or items₀ c 0) x ]
 
-pub lacking_start : (x : ℕ) (items : List ℕ) (r : ℕ) → r < 2 ^ 64 → Lacking x items r items r r
-lacking_start x items r h = record { small = h; part = λ c e. e; untouched = λ c e. refl; told = λ c k. cases (has r c) _ }
-  where
-    cases : (b z : Bool) → ◌≡◌ {A = Bool} b (elim b as (λ y. Bool) [ true ↦ true | false ↦ b && z ])
-    cases true z = refl
-    cases false z = refl
-
 module _ {x : ℕ} {items₀ : List ℕ} {r : ℕ} {items : List ℕ} {left lacked : ℕ} (w : Lacking x items₀ r items left lacked) where
   module _ (less : left < 2 ^ 64) (more : left ≡ 0 → ⊥) (v : ℕ) (is : v ≡ lowest left) (items' : List ℕ) (others : (c : ℕ) → (c ≡ v → ⊥) → get_or items' c 0 ≡ get_or items c 0)
       (lacks : Bool) (is-lacks : lacks ≡ has_more (get_or items (v % 64) 0) x) (lacked' : ℕ) (is-lacked : lacked' ≡ keep_if lacks lacked (v % 64)) (later : ℕ) (is_later : later ≡ without left (lowest left)) where

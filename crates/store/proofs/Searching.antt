@@ -10,6 +10,7 @@ use lib.Dec.{eqb, ltb}
 use lib.ListN.{get_or, length}
 use lib.Pow.{shr-shr}
 use borrow.Author.Tests.{lt-ltb, eqb-true, eq-eqb}
+use Rattle.std.specs.Prelude.{Option, Some, None}
 use Rattle.sets.specs.Sets.{has, only, bit, those_from, those, without, ◌∪◌, ◌∩◌, count, lowest, union_of}
 use Rattle.sets.proofs.Members.{union_has, inter_has, inter_lt, inter_le, only_has, none_has, those_has, without_le, without_part, without_other, union_lt, only_lt, has_below, count_less, member, turn_below}
 use Rattle.sets.proofs.Unions.{none_union, union_of_part}
@@ -47,8 +48,8 @@ pub record Seek (f : ℕ → Bool) (left todo : ℕ) : Type 0 where
 pub seek_start : (f : ℕ → Bool) (left : ℕ) → left < 65536 → Seek f left left
 seek_start f left h = record { small = h; part = λ p m. m; rest = λ p m n. no_both m n }
 
-pub seek_end : {f : ℕ → Bool} {left todo : ℕ} → Seek f left todo → todo ≡ 0 → Finds f left 64
-seek_end s e = record { found = λ d. absurd (d refl); none = λ q p m. s.rest p m (ap (λ (x : ℕ). has x p) e ∙ none_has p) }
+pub seek_end : {f : ℕ → Bool} {left todo : ℕ} → Seek f left todo → todo ≡ 0 → Finds f left None
+seek_end s e = λ p m. s.rest p m (ap (λ (x : ℕ). has x p) e ∙ none_has p)
 
 module _ {f : ℕ → Bool} {left todo : ℕ} (s : Seek f left todo) (more : todo ≡ 0 → ⊥) (p : ℕ) (is : p ≡ lowest todo) where
   tried : has todo p ≡ true
@@ -57,8 +58,8 @@ module _ {f : ℕ → Bool} {left todo : ℕ} (s : Seek f left todo) (more : tod
   pub seek_below : p < 16
   seek_below = has_below 16 todo p s.small tried
 
-  pub seek_hit : f p ≡ true → Finds f left p
-  seek_hit e = record { found = λ d. (s.part p tried, e); none = λ q. absurd (let z : ⊥ = omega (arith, seek_below) in z) }
+  pub seek_hit : f p ≡ true → Finds f left (Some p)
+  seek_hit e = (s.part p tried, e)
 
   pub seek_miss : f p ≡ false → (later : ℕ) → later ≡ without todo (lowest todo) → Seek f left later
   seek_miss e later g =
@@ -78,8 +79,8 @@ module _ {f : ℕ → Bool} {left todo : ℕ} (s : Seek f left todo) (more : tod
 
 -- ---- half by half
 -- nothing in the set x feeds a process of the set left
-pub calm_none : (rows : List ℕ) (x left all : ℕ) → Within rows left all → x ∩ all ≡ 0 → Finds (fed_from rows x) left 64
-calm_none rows x left all w calm = record { found = λ d. absurd (d refl); none = λ q p m. by (fed_from rows x p) (λ k. meeting p m (meets_at x _ k)) (λ k. k) }
+pub calm_none : (rows : List ℕ) (x left all : ℕ) → Within rows left all → x ∩ all ≡ 0 → Finds (fed_from rows x) left None
+calm_none rows x left all w calm = λ p m. by (fed_from rows x p) (λ k. meeting p m (meets_at x _ k)) (λ k. k)
   where
     meeting : (p : ℕ) → has left p ≡ true → (i : ℕ) × (has x i ≡ true) × (has (get_or rows p 0) i ≡ true) → fed_from rows x p ≡ false
     meeting p m z = no_common x all z.0 calm z.1 (w p m z.0 z.2)
@@ -114,7 +115,7 @@ in_half p h f g = in_cases low_half high_half p f g (ap (λ (x : ℕ). has x p) 
 within_part : (rows : List ℕ) (left half all : ℕ) → Within rows half all → Within rows (left ∩ half) all
 within_part rows left half all w p m = w p (and_r (has left p) _ (sym (inter_has left half p) ∙ m))
 
-pub half_none : (rows : List ℕ) (x left half all : ℕ) → Within rows half all → x ∩ all ≡ 0 → Finds (fed_from rows x) (left ∩ half) 64
+pub half_none : (rows : List ℕ) (x left half all : ℕ) → Within rows half all → x ∩ all ≡ 0 → Finds (fed_from rows x) (left ∩ half) None
 half_none rows x left half all w calm = calm_none rows x (left ∩ half) all (within_part rows left half all w) calm
 
 pub half_lt : (left half : ℕ) → left < 65536 → (left ∩ half) < 65536
@@ -128,16 +129,12 @@ module _ (rows : List ℕ) (left : ℕ) (small : left < 65536) where
   in_inter half p m h = inter_has left half p ∙ and_i (has left p) _ m h
 
   -- one of the low half, or else what is found in the high half
-  pub found_low : (x p : ℕ) → (p ≡ 64 → ⊥) → Finds (fed_from rows x) (left ∩ low_half) p → Finds (fed_from rows x) left p
-  found_low x p d w =
-      record { found = λ z. let f = w.found z in (and_l _ (has low_half p) (sym (inter_has left low_half p) ∙ f.0), f.1); none = λ z. absurd (d z) }
+  pub found_low : (x p : ℕ) → Finds (fed_from rows x) (left ∩ low_half) (Some p) → Finds (fed_from rows x) left (Some p)
+  found_low x p w = (and_l _ (has low_half p) (sym (inter_has left low_half p) ∙ w.0), w.1)
 
-  pub found_high : (x q p : ℕ) → q ≡ 64 → Finds (fed_from rows x) (left ∩ low_half) q → Finds (fed_from rows x) (left ∩ high_half) p → Finds (fed_from rows x) left p
-  found_high x q p e l r =
-      record {
-        found = λ z. let f = r.found z in (and_l _ (has high_half p) (sym (inter_has left high_half p) ∙ f.0), f.1);
-        none = λ z k m. in_half k (has_below 16 left k small m) (λ h. l.none e k (in_inter low_half k m h)) (λ h. r.none z k (in_inter high_half k m h));
-      }
+  pub found_high : (x : ℕ) (r : Option ℕ) → Finds (fed_from rows x) (left ∩ low_half) None → Finds (fed_from rows x) (left ∩ high_half) r → Finds (fed_from rows x) left r
+  found_high x (Some p) l w = (and_l _ (has high_half p) (sym (inter_has left high_half p) ∙ w.0), w.1)
+  found_high x None l w = λ k m. in_half k (has_below 16 left k small m) (λ h. l k (in_inter low_half k m h)) (λ h. w k (in_inter high_half k m h))
 
 -- what the rows of a half map, as they lie in the words
 pub within_low : (w : List ℕ) (all : ℕ) → length w ≡ 353 → all ≡ union_of (part 65 8 w) → Within (part 65 16 w) low_half all
@@ -177,29 +174,23 @@ module _ (rows : List ℕ) (x left : ℕ) where
     pub own_below : p < 64
     own_below = turn_below _ own_lt more p is
 
-    pub next_own : Finds (comes_next rows x) left p
+    pub next_own : Finds (comes_next rows x) left (Some p)
     next_own =
         let m : (has x (container_of p) && has left p) ≡ true = sym (own_has p) ∙ member _ own_lt more p is in
-        record {
-          found = λ d. (and_r (has x (container_of p)) _ m, or_l (has x (container_of p)) _ (and_l _ (has left p) m));
-          none = λ q. absurd (let z : ⊥ = omega (arith, own_below) in z);
-        }
+        (and_r (has x (container_of p)) _ m, or_l (has x (container_of p)) _ (and_l _ (has left p) m))
 
   module _ (e : own_of x left ≡ 0) where
     not_in : (p : ℕ) → has left p ≡ true → has x (container_of p) ≡ false
     not_in p m = and_false_l _ (has left p) m (sym (own_has p) ∙ ap (λ (z : ℕ). has z p) e ∙ none_has p)
 
     -- none is, but one may be fed
-    pub next_fed : (p : ℕ) → Finds (fed_from rows x) left p → Finds (comes_next rows x) left p
-    next_fed p s =
-        record {
-          found = λ d. ((s.found d).0, or_r (has x (container_of p)) _ (s.found d).1);
-          none = λ q k m. or_false_i _ _ (not_in k m) (s.none q k m);
-        }
+    pub next_fed : (r : Option ℕ) → Finds (fed_from rows x) left r → Finds (comes_next rows x) left r
+    next_fed (Some p) s = (s.0, or_r (has x (container_of p)) _ s.1)
+    next_fed None s = λ k m. or_false_i _ _ (not_in k m) (s k m)
 
     -- none is, and nothing in the set feeds a process
-    pub next_none : (all : ℕ) → Within rows left all → x ∩ all ≡ 0 → Finds (comes_next rows x) left 64
-    next_none all w calm = next_fed 64 (calm_none rows x left all w calm)
+    pub next_none : (all : ℕ) → Within rows left all → x ∩ all ≡ 0 → Finds (comes_next rows x) left None
+    next_none all w calm = next_fed None (calm_none rows x left all w calm)
 
 -- ---- the search
 -- process p and the containers of its row
@@ -224,9 +215,9 @@ pub record Search (t : Tables) (fed : List ℕ) (u seen left : ℕ) : Type 0 whe
   pub small : left < 65536
   pub gone : (p : ℕ) → p < 16 → has left p ≡ false → (v : ℕ) → has (near fed p) v ≡ true → has seen v ≡ true
 
-pub search_start : (t : Tables) (g : List ℕ) (u : ℕ) → u < 64 → Search t g u (0 ∪ only (u % 64)) 65535
+pub search_start : (t : Tables) (g : List ℕ) (u : ℕ) → u < 64 → Search t g u (0 ∪ only u) 65535
 search_start t g u h =
-    rw (none_union, mod-eq_of_lt h)
+    rw none_union
     (record {
       fits = only_lt u h;
       start = in_one u;
@@ -239,12 +230,9 @@ search_start t g u h =
 module _ (t : Tables) (f g : List ℕ) (ins : (p : ℕ) → p < 16 → feeders_of t p ≡ get_or f p 0) (outs : (p : ℕ) → p < 16 → feeds t p ≡ get_or g p 0)
     {u seen left : ℕ} (s : Search t g u seen left) where
   -- nothing comes next
-  pub search_over : u < 64 → ((p : ℕ) → feeds t p < 2 ^ 64) → (p : ℕ) → p ≡ 64 → Finds (comes_next f seen) left p → seen ≡ reach t u
-  search_over h bound p e w = is_reach t bound u seen h s.fits s.start s.leads (λ v w. shut v w)
+  pub search_over : u < 64 → ((p : ℕ) → feeds t p < 2 ^ 64) → Finds (comes_next f seen) left None → seen ≡ reach t u
+  search_over h bound calm = is_reach t bound u seen h s.fits s.start s.leads (λ v w. shut v w)
     where
-      calm : (p : ℕ) → has left p ≡ true → comes_next f seen p ≡ false
-      calm = w.none e
-
       shut : (v w : ℕ) → has seen v ≡ true → linked t v w ≡ true → has seen w ≡ true
       shut v w m =
           link_cases t v w

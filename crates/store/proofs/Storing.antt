@@ -1,45 +1,35 @@
 -- Mappings raised, lowered, copied and ended in the words, as the maps have it.
-use Prim.Native.Nat.{ℕ, zero, suc, ◌+◌, ◌/◌, ◌%◌, ◌≤◌, ◌<◌}
+use Prim.Native.Nat.{ℕ, ◌+◌, ◌/◌, ◌%◌, ◌≤◌, ◌<◌}
 use native.Mathlib.Omega.{arith}
-use native.Mathlib.Numerals.{add-one}
 use native.Mathlib.Decide.{ℕ_discrete}
-use native.Mathlib.Nat.{not-suc-le-zero, le_of_suc-le-suc}
 use mathlib.Core.Path.{◌≡◌, refl, sym, ap, ap₂, subst, ◌∙◌}
 use mathlib.Core.Bool.{false, ◌&&◌}
-use mathlib.Core.List.{List, [], ◌∷◌}
+use mathlib.Core.List.{List, []}
 use lib.Bits.{and_zero_l}
 use lib.ListN.{length, get_or, set, length-set}
-use lib.Seq.{get_or-set_same, get_or-set_other, paste}
+use lib.Seq.{set-get_or, get_or-set_same, get_or-set_other, paste, length-paste}
 use Rattle.sets.specs.Sets.{has, ◌∩◌}
 use Rattle.sets.proofs.Members.{inter_has, none_has}
 use Rattle.flow.specs.Box.{to_read, both_ways, Tables, no_mappings, row_of, mappings}
 use Rattle.flow.specs.Calls.{with_row, with_rows}
-use Rattle.flow.proofs.Mapping.{Sized}
 use Rattle.store.specs.declared.counts.Cells.{Cells}
 use Rattle.store.specs.Maps.{part, view, with_tables, byte_of, count_by, row_in, maps_in, ways_in, reads_at, boths_at, read_row, both_row}
 use Rattle.store.specs.Pairs.{cells_in, stored, read_in, both_in, Turned}
-use Rattle.store.proofs.Parts.{part_at, part_length}
-use Rattle.store.proofs.BlockLaws.{laid, laid_none, laid_more, laid_other, laid_at}
+use Rattle.store.proofs.Parts.{part_at, part_length, pasted_at, pasted_other}
 use Rattle.store.proofs.Counting.{row_at, row_none, row_words, row_changed}
-use Rattle.store.proofs.Writes.{Mine, maps, ways, reads, boths, Outside, outside_none, outside_more, outside_set, rows_stored, row_of_words, row_viewed}
+use Rattle.store.proofs.Writes.{Mine, maps, ways, reads, boths, Outside, outside_more, outside_set, rows_stored, row_of_words, row_viewed}
 
--- ---- an element set to what it is
-pub set_own : {A : Type 0} (l : List A) (i : ℕ) (d : A) → i < length l → set l i (get_or l i d) ≡ l
-set_own [] i d h = absurd (not-suc-le-zero h)
-set_own (x ∷ l) zero d h = refl
-set_own {A} (x ∷ l) (suc i) d h = ap (λ (z : List A). x ∷ z) (set_own l i d (le_of_suc-le-suc h))
-
--- one row of a process set, the other as it is
-module _ (t : Tables) (k : Sized t) (p : ℕ) (hp : p < 16) (l : List ℕ) where
+-- ---- one row of a process set, the other as it is
+module _ (t : Tables) (p : ℕ) (l : List ℕ) where
   pub read_alone : with_rows t p l (row_of t both_ways p) ≡ with_row t to_read p l
   unfolding with_rows with_row row_of
   read_alone =
-      λ i. record { live = t.live; reads = set t.reads p l; boths = set_own t.boths p [] (omega (arith, k.boths)) i; descriptors = t.descriptors; names = t.names }
+      λ i. record { live = t.live; reads = set t.reads p l; boths = set-get_or t.boths p [] i; descriptors = t.descriptors; names = t.names }
 
   pub both_alone : with_rows t p (row_of t to_read p) l ≡ with_row t both_ways p l
   unfolding with_rows with_row row_of
   both_alone =
-      λ i. record { live = t.live; reads = set_own t.reads p [] (omega (arith, k.reads)) i; boths = set t.boths p l; descriptors = t.descriptors; names = t.names }
+      λ i. record { live = t.live; reads = set-get_or t.reads p [] i; boths = set t.boths p l; descriptors = t.descriptors; names = t.names }
 
 -- ---- one pair stored
 module _ (w d n : List ℕ) (long : length w ≡ 353) (p : ℕ) (hp : p < 16) (c : ℕ) (hc : c < 64) where
@@ -50,13 +40,13 @@ module _ (w d n : List ℕ) (long : length w ≡ 353) (p : ℕ) (hp : p < 16) (c
   old = cells_in w p c
 
   -- what it counts
-  pub read_count : mappings tables to_read p c ≡ read_in old c
+  pub reads_counted : mappings tables to_read p c ≡ read_in old c
   unfolding mappings row_of_words read_row read_in cells_in
-  read_count = ap (λ (l : List ℕ). get_or l c 0) (row_viewed to_read w d n p hp) ∙ row_at (maps_in w p) (ways_in w p) w (reads_at p) c hc
+  reads_counted = ap (λ (l : List ℕ). get_or l c 0) (row_viewed to_read w d n p hp) ∙ row_at (maps_in w p) (ways_in w p) w (reads_at p) c hc
 
-  pub both_count_lem : mappings tables both_ways p c ≡ both_in old c
+  pub boths_counted : mappings tables both_ways p c ≡ both_in old c
   unfolding mappings row_of_words both_row both_in cells_in
-  both_count_lem =
+  boths_counted =
       ap (λ (l : List ℕ). get_or l c 0) (row_viewed both_ways w d n p hp) ∙ row_at (maps_in w p ∩ ways_in w p) 0 w (boths_at p) c hc
       ∙ rw (inter_has (maps_in w p) (ways_in w p) c, none_has c) refl
 
@@ -218,23 +208,18 @@ module _ (w d n : List ℕ) (long : length w ≡ 353) (p q : ℕ) (hp : p < 16) 
     eight : length block ≡ 8
     eight = part_length source 8 l (omega arith)
 
-    outside_laid : (k : ℕ) → k ≤ 8 → Outside q l (laid l at block k)
-    outside_laid zero h = subst (λ (z : List ℕ). Outside q l z) (laid_none l at block) (outside_none q l)
-    outside_laid (suc k) h =
-        subst (λ (z : List ℕ). Outside q l z) (laid_more l at block k _ (omega arith) (omega (arith, eight)) refl ∙ ap (laid l at block) (add-one k))
-        (outside_more (outside_laid k (omega arith)) (outside_set q (laid l at block k) (at + k) _ (mine k (omega arith))))
+    copied_at : (i : ℕ) → i < 8 → get_or (paste l at block 8) (at + i) 0 ≡ get_or l (source + i) 0
+    copied_at i h = pasted_at l at 8 block (omega arith) (omega (arith, eight)) i h ∙ sym (part_at source 8 l i h)
 
-    pub pasted : Outside q l (paste l at block 8)
-    unfolding laid
-    pasted = outside_laid 8 (omega arith)
+    other : (j : ℕ) → ((i : ℕ) → i < 8 → j ≡ at + i → ⊥) → get_or (paste l at block 8) j 0 ≡ get_or l j 0
+    other j f = pasted_other l at 8 block (omega arith) (omega (arith, eight)) j f
 
-    pub pasted_at : (i : ℕ) → i < 8 → get_or (paste l at block 8) (at + i) 0 ≡ get_or l (source + i) 0
-    unfolding laid
-    pasted_at i h = laid_at l at block 8 i (omega arith) (omega (arith, eight)) h ∙ sym (part_at source 8 l i h)
-
-    pub pasted_other : (j : ℕ) → ((i : ℕ) → i < 8 → j ≡ at + i → ⊥) → get_or (paste l at block 8) j 0 ≡ get_or l j 0
-    unfolding laid
-    pasted_other j f = laid_other l at block 8 j (omega arith) (omega (arith, eight)) f
+    pasted : Outside q l (paste l at block 8)
+    pasted =
+        record {
+          size = length-paste l at block 8 (omega arith) (omega (arith, eight));
+          same = λ j f. other j (λ i h e. f (subst (Mine q) (sym e) (mine i h)));
+        }
 
   abbrev first : List ℕ
   first = paste sets (reads_at q) (part (reads_at p) 8 sets) 8
@@ -257,18 +242,18 @@ module _ (w d n : List ℕ) (long : length w ≡ 353) (p q : ℕ) (hp : p < 16) 
 
   sets_last : (j : ℕ) → j < 97 → get_or second j 0 ≡ get_or sets j 0
   sets_last j h =
-      pasted_other first size_first (boths_at p) (boths_at q) (omega arith) (omega arith) boths j (λ i l e. let z : ⊥ = omega arith in z)
-      ∙ pasted_other sets size_sets (reads_at p) (reads_at q) (omega arith) (omega arith) reads j (λ i l e. let z : ⊥ = omega arith in z)
+      other first size_first (boths_at p) (boths_at q) (omega arith) (omega arith) boths j (λ i l e. let z : ⊥ = omega arith in z)
+      ∙ other sets size_sets (reads_at p) (reads_at q) (omega arith) (omega arith) reads j (λ i l e. let z : ⊥ = omega arith in z)
 
   reads_last : (i : ℕ) → i < 8 → get_or second (reads_at q + i) 0 ≡ get_or w (reads_at p + i) 0
   reads_last i h =
-      pasted_other first size_first (boths_at p) (boths_at q) (omega arith) (omega arith) boths (reads_at q + i) (λ k l e. let z : ⊥ = omega arith in z)
-      ∙ pasted_at sets size_sets (reads_at p) (reads_at q) (omega arith) (omega arith) reads i h ∙ behind (reads_at p + i) (omega arith)
+      other first size_first (boths_at p) (boths_at q) (omega arith) (omega arith) boths (reads_at q + i) (λ k l e. let z : ⊥ = omega arith in z)
+      ∙ copied_at sets size_sets (reads_at p) (reads_at q) (omega arith) (omega arith) reads i h ∙ behind (reads_at p + i) (omega arith)
 
   boths_last : (i : ℕ) → i < 8 → get_or second (boths_at q + i) 0 ≡ get_or w (boths_at p + i) 0
   boths_last i h =
-      pasted_at first size_first (boths_at p) (boths_at q) (omega arith) (omega arith) boths i h
-      ∙ pasted_other sets size_sets (reads_at p) (reads_at q) (omega arith) (omega arith) reads (boths_at p + i) (λ k l e. let z : ⊥ = omega arith in z) ∙ behind (boths_at p + i) (omega arith)
+      copied_at first size_first (boths_at p) (boths_at q) (omega arith) (omega arith) boths i h
+      ∙ other sets size_sets (reads_at p) (reads_at q) (omega arith) (omega arith) reads (boths_at p + i) (λ k l e. let z : ⊥ = omega arith in z) ∙ behind (boths_at p + i) (omega arith)
 
   pub copied_all : given second
   unfolding row_of_words read_row both_row maps_in ways_in

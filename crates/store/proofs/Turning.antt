@@ -1,10 +1,12 @@
 -- The cells of one process and container: what they count, and with another count.
 use Prim.Native.Nat.{ℕ, ◌%◌, ◌<◌}
-use mathlib.Core.Path.{◌≡◌, refl, sym, ◌∙◌}
+use native.Mathlib.Nat.{mod-eq_of_lt}
+use mathlib.Core.Path.{◌≡◌, refl, sym, ap, ◌∙◌}
 use mathlib.Core.Bool.{Bool, true, false, ◌&&◌, or_comm}
+use lib.Bits.{bit_and}
 use borrow.Author.Tests.{eq-eqb, ne_eqb}
-use Rattle.sets.specs.Sets.{has, only, without, ◌∪◌}
-use Rattle.sets.proofs.Members.{union_has, only_has, without_at, without_other}
+use Rattle.sets.specs.Sets.{has, only, without, ◌∪◌, ◌∩◌}
+use Rattle.sets.proofs.Members.{union_has, inter_has, only_has, without_at, without_other}
 use Rattle.flow.proofs.Bools.{by, or_r}
 use Rattle.store.specs.declared.counts.Cells.{Cells}
 use Rattle.store.specs.Maps.{byte_of, put_byte, count_by}
@@ -69,6 +71,14 @@ module _ (x : Cells) (c : ℕ) where
   pub both_none : (has x.maps c && has x.ways c) ≡ false → both_in x c ≡ 0
   unfolding both_in count_by
   both_none e = rw e refl
+
+  -- by the test that the code makes
+  pub read_more : has x.maps c ≡ true → (reads ≡ 0 → ⊥) → read_in x c ≡ reads
+  read_more e z = by (has x.ways c) (λ w. read_both e w) (λ w. read_alone e w ∙ least_more reads z)
+
+  pub two_ways : (b : Bool) → c < 64 → has (bit_and x.maps x.ways) (c % 64) ≡ b → (has x.maps c && has x.ways c) ≡ b
+  unfolding ◌∩◌
+  two_ways b h e = sym (inter_has x.maps x.ways c) ∙ ap (has (bit_and x.maps x.ways)) (sym (mod-eq_of_lt h)) ∙ e
 
   -- ---- other cells, of which bytes and members but those of c are as before
   module _ (hc : c < 64) where

@@ -84,10 +84,6 @@ module _ {keep : ℕ → Bool} {x found left : ℕ} (s : Sifting keep x found le
         one c l (yes d) = rw (gone c l d, d, own, k) refl
         one c l (no d) = rw (others c l d) refl
 
-    pub sifting_more : (b : Bool) → keep v ≡ not b → {next : ℕ} → next ≡ elim b [ true ↦ found | false ↦ found ∪ only (v % 64) ] → Sifting keep x next later
-    sifting_more true k f = rw f (sifting_left k)
-    sifting_more false k f = rw f (sifting_kept k)
-
 -- ---- the sets of containers by their kinds
 processes_are : 0xFFFF00 ≡ those is_process
 unfolding those those_from bit is_process

@@ -1,19 +1,15 @@
 -- What stands in a table, by a flag in a byte, and links as sets.
-use Prim.Native.Nat.{ℕ, zero, suc, ◌+◌, ◌%◌, ◌^◌, ◌≤◌, ◌<◌}
+use Prim.Native.Nat.{ℕ, zero, suc, ◌+◌, ◌^◌, ◌≤◌, ◌<◌}
 use native.Mathlib.Omega.{arith}
 use native.Mathlib.Numerals.{add-one}
-use native.Mathlib.Nat.{mod-eq_of_lt}
 use native.Mathlib.Decide.{dec_lt}
 use mathlib.Core.Path.{◌≡◌, refl, sym, ap, ap₂, ◌∙◌}
-use mathlib.Core.Bool.{Bool, true, false, not, ◌&&◌, ◌||◌, or_assoc, or_comm, and_comm}
-use mathlib.Core.List.{List}
-use lib.Bits.{bit_or}
-use lib.Dec.{eqb, ltb}
-use borrow.Author.Tests.{lt-ltb, le-ltb}
-use lib.ListN.{length, get_or, take}
+use mathlib.Core.Bool.{Bool, true, false, ◌&&◌, ◌||◌, or_assoc, or_comm}
+use mathlib.Core.List.{List, [], ◌∷◌}
+use lib.Dec.{eqb}
+use lib.ListN.{length, get_or, take, drop}
 use lib.Seq.{take-length}
-use mir.Val.{bool_byte}
-use Rattle.sets.specs.Sets.{has, ◌∩◌, union_of}
+use Rattle.sets.specs.Sets.{has, ◌∪◌, ◌∩◌, union_of}
 use Rattle.sets.proofs.Members.{union_has, inter_has, none_has, past_has, eqb_sym}
 use Rattle.sets.proofs.Unions.{all_more, union_of_more}
 use Rattle.flow.specs.Lists.{some_below, is_in}
@@ -22,26 +18,14 @@ use Rattle.flow.specs.Links.{mapped, is_fed}
 use Rattle.flow.proofs.TableLaws.{none_of, none_below, some_more, some_same, is_in_cons}
 use Rattle.flow.proofs.Bools.{or_false_i}
 use Rattle.store.specs.Maps.{part, view, maps_in, ways_in, reads_at, boths_at, read_row, both_row, fed_up_to}
-use Rattle.store.proofs.Parts.{part_at, part_length}
+use Rattle.store.proofs.Parts.{part_at, part_length, part_most}
 use Rattle.store.proofs.Counting.{row_lt, both_has, either_has}
 use Rattle.store.proofs.Writes.{row_of_words, row_viewed}
 pub use Rattle.flow.proofs.TableLaws.{is_in_cons}
 
--- ---- the flag
-bytes_or : (a b : Bool) → bit_or (bool_byte a) (bool_byte b) ≡ bool_byte (a || b)
-bytes_or true true = refl
-bytes_or true false = refl
-bytes_or false true = refl
-bytes_or false false = refl
-
-pub is_in_byte : (c : ℕ) (l : List ℕ) (i : ℕ) → i < length l
-    → bit_or (bool_byte (is_in c (take i l))) (bool_byte (eqb (get_or l i 0) c)) ≡ bool_byte (is_in c (take (i + 1) l))
-is_in_byte c l i h =
-    rw (all_more (is_in c) ◌||◌ (eqb c) (is_in_cons c) or_assoc or_comm l i h, eqb_sym c) (bytes_or (is_in c (take i l)) (eqb (get_or l i 0) c))
-
-pub byte_test : (a : Bool) → not (eqb (bool_byte a) 0) ≡ a
-byte_test true = refl
-byte_test false = refl
+-- ---- what stands in a table
+pub is_in_more : (c : ℕ) (l : List ℕ) (i : ℕ) → i < length l → (is_in c (take i l) || eqb (get_or l i 0) c) ≡ is_in c (take (i + 1) l)
+is_in_more c l i h = rw (all_more (is_in c) ◌||◌ (eqb c) (is_in_cons c) or_assoc or_comm l i h, eqb_sym c) refl
 
 -- ---- links as sets
 union_of_below : (n : ℕ) (rows : List ℕ) (c : ℕ) → n ≤ length rows → has (union_of (take n rows)) c ≡ some_below n (λ p. has (get_or rows p 0) c)
@@ -133,10 +117,22 @@ module _ (w d n : List ℕ) (long : length w ≡ 353) where
           ∙ and_none (has (maps_in w p) c) (ap (λ (z : ℕ). has z c) (part_at 81 16 w p hp) ∙ none_of 16 (λ q. has (get_or (part 81 16 w) q 0) c) p (sym (union_of_has 16 (part 81 16 w) c (part_length 81 16 w (omega arith))) ∙ e) hp)
       one p hp (no h) = fed_past c p (omega arith) hp
 
--- a member by the number as it comes round, where it is one of the 64
-pub member_of : (x c : ℕ) → x < 2 ^ 64 → (has x (c % 64) && ltb c 64) ≡ has x c
-member_of x c h = go (dec_lt c 64)
+-- ---- the first element of what is left of a list
+drop_first : (l : List ℕ) (n x : ℕ) (r : List ℕ) → drop n l ≡ x ∷ r → (x ≡ get_or l n 0) × (r ≡ drop (n + 1) l) × (n < length l)
+drop_first l n x r e = rw (add-one n) (go l n e)
   where
-    go : Dec (c < 64) → (has x (c % 64) && ltb c 64) ≡ has x c
-    go (yes l) = rw (mod-eq_of_lt l, lt-ltb c 64 l) (and_comm (has x c) true)
-    go (no l) = rw (le-ltb c 64 (omega arith), past_has x c h (omega arith)) (and_comm (has x (c % 64)) false)
+    go : (l : List ℕ) (n : ℕ) → drop n l ≡ x ∷ r → (x ≡ get_or l n 0) × (r ≡ drop (suc n) l) × (n < length l)
+    go [] zero e = cc
+    go [] (suc n) e = cc
+    go (y ∷ l) zero e = (sym (ap (λ (k : List ℕ). get_or k 0 0) e), sym (ap (drop 1) e), omega arith)
+    go (y ∷ l) (suc n) e = let i = go l n e in (i.0, i.1, omega (arith, i.2))
+
+-- the sets of process n, of those that are left of each, joined
+pub fed_more : (w : List ℕ) (n x y fed : ℕ) (k l : List ℕ) → fed ≡ fed_up_to w n → drop n (part 65 16 w) ≡ x ∷ k → drop n (part 81 16 w) ≡ y ∷ l
+    → ((fed ∪ (x ∩ y)) ≡ fed_up_to w (n + 1)) × (k ≡ drop (n + 1) (part 65 16 w)) × (l ≡ drop (n + 1) (part 81 16 w))
+unfolding fed_up_to maps_in ways_in
+fed_more w n x y fed k l f e g =
+    let a = drop_first (part 65 16 w) n x k e in
+    let b = drop_first (part 81 16 w) n y l g in
+    let h : n < 16 = omega (arith, a.2, part_most 65 16 w) in
+    (rw (add-one n, f, a.0 ∙ sym (part_at 65 16 w n h), b.0 ∙ sym (part_at 81 16 w n h)) refl, a.1, b.1)

@@ -4,10 +4,8 @@ use native.Mathlib.Omega.{arith}
 use native.Mathlib.Decide.{dec_lt}
 use mathlib.Core.Path.{◌≡◌, refl, sym, ap, ap₂, subst, ◌∙◌}
 use mathlib.Core.List.{List, [], ◌++◌}
-use lib.Dec.{eqb}
 use lib.ListN.{length, get_or, set, replicate, take, drop, drop_of_length-le, length-replicate, get_or-replicate}
 use lib.Seq.{get_or-take, get_or-drop, length-take-le, drop-append_seam, take-append_seam, ext_get_or}
-use borrow.Author.Tests.{ne_eqb}
 use borrow.Rule.Slice.PartMut.{put_mid, post_of, take_put, drop_put}
 use Rattle.sets.specs.Sets.{only, ◌∪◌, ◌∩◌}
 use Rattle.sets.proofs.Members.{inter_lt}
@@ -15,8 +13,7 @@ use Rattle.sets.proofs.Unions.{none_union}
 use Rattle.flow.specs.Lists.{table}
 use Rattle.flow.specs.Box.{slot, closed, no_mappings, no_tables, to_read, both_ways, Tables, row_of, mapped_in, feeders_of, feeds}
 use Rattle.flow.specs.Links.{reach, given}
-use Rattle.flow.specs.Calls.{sort_of, block}
-use Rattle.flow.proofs.Bools.{chosen_r}
+use Rattle.flow.specs.Calls.{block}
 use Rattle.flow.proofs.Counts.{zeros}
 use Rattle.flow.proofs.TableLaws.{table_at, table_length}
 use Rattle.store.specs.Maps.{part, view, maps_in, ways_in, read_row, both_row, with_items, cleared, items_by}
@@ -27,18 +24,6 @@ use Rattle.store.proofs.Counting.{feeder_set, fed_set_lem}
 use Rattle.store.proofs.Writes.{mine_behind, read_same, both_same, rows_same, row_of_words, row_viewed, row_past}
 use Rattle.store.proofs.Storing.{read_none, both_none}
 use Rattle.store.proofs.Spreading.{reach_same}
-
-pub row_bound : (w : List ℕ) → ((p : ℕ) → get_or w p 0 < 2 ^ 64) → (a n q : ℕ) → get_or (part a n w) q 0 < 2 ^ 64
-row_bound w h a n q = go (dec_lt q n)
-  where
-    go : Dec (q < n) → get_or (part a n w) q 0 < 2 ^ 64
-    go (yes k) = subst (λ (x : ℕ). x < 2 ^ 64) (part_at a n w q k) (h _)
-    go (no k) = subst (λ (x : ℕ). x < 2 ^ 64) (part_past a n w q (omega arith)) (omega arith)
-
--- a sort that is not 0
-pub sort_both : (x : ℕ) → (x ≡ 0 → ⊥) → sort_of x ≡ both_ways
-unfolding sort_of
-sort_both x h = chosen_r (eqb x 0) to_read both_ways (ne_eqb x 0 h)
 
 -- ---- the links of the words, whatever the other tables are
 module _ (w d n : List ℕ) (p : ℕ) where
@@ -57,6 +42,15 @@ module _ (w d n : List ℕ) (p : ℕ) where
   feeds_past : 16 ≤ p → feeds (view w d n).tables p ≡ 0
   unfolding feeds mapped_in
   feeds_past h = ap mapped_in (row_past both_ways w d n p h)
+
+-- what process p maps, as it lies in the words
+pub feeders_row : (w d n : List ℕ) → ((i : ℕ) → get_or w i 0 < 2 ^ 64) → (p : ℕ) → get_or (part 65 16 w) p 0 ≡ feeders_of (view w d n).tables p
+unfolding maps_in
+feeders_row w d n bound p = go (dec_lt p 16)
+  where
+    go : Dec (p < 16) → get_or (part 65 16 w) p 0 ≡ feeders_of (view w d n).tables p
+    go (yes h) = sym (part_at 65 16 w p h) ∙ sym (feeders_is w d n p h (bound (65 + p)))
+    go (no h) = sym (part_past 65 16 w p (omega arith)) ∙ sym (feeders_past w d n p (omega arith))
 
 abbrev pub links_of : List ℕ → Tables
 links_of w = (view w [] []).tables

@@ -1,4 +1,4 @@
--- Loops that take the lowest member of a set in each turn, until none is left: gifts, and emptying.
+-- Loops that go over the members of a set, the lowest of what is left in each turn: gifts, and emptying.
 use Prim.Native.Nat.{ℕ, ◌%◌, ◌<◌, ◌^◌}
 use native.Mathlib.Omega.{arith}
 use native.Mathlib.Decide.{ℕ_discrete}
@@ -9,13 +9,12 @@ use lib.ListN.{get_or, set, length, length-set}
 use lib.Seq.{get_or-set_same, get_or-set_other}
 use borrow.Author.Tests.{eq-eqb, ne_eqb}
 use Rattle.sets.specs.Sets.{has, only, without, lowest, ◌∪◌}
-use Rattle.sets.proofs.Members.{itself, without_lt, none_has, only_has}
+use Rattle.sets.proofs.Members.{itself, without_lt, without_at, without_other, none_has, only_has, member, turn_below}
 use Rattle.flow.specs.Lists.{table}
 use Rattle.flow.specs.Links.{given}
 use Rattle.flow.proofs.Bools.{chosen_l, chosen_r}
 use Rattle.flow.proofs.TableLaws.{table_at, table_length, is_table}
 use Rattle.store.specs.Maps.{cleared}
-pub use Rattle.sets.proofs.Members.{without_at, without_other, member, turn_below, turn_less}
 
 -- ---- the loop: each member of the set r has its cell y replaced by f y
 abbrev pub mapped : (ℕ → ℕ) → List ℕ → ℕ → List ℕ
@@ -31,9 +30,6 @@ module _ (f : ℕ → ℕ) where
   -- of the empty set, nothing
   mapped_none : (l : List ℕ) → length l ≡ 64 → l ≡ mapped f l 0
   mapped_none l e = is_table 64 _ l e (λ i h. sym (chosen_r (has 0 i) (f (get_or l i 0)) (get_or l i 0) (none_has i)))
-
-  pub working_start : (items : List ℕ) (r : ℕ) → length items ≡ 64 → r < 2 ^ 64 → Working f items r items r
-  working_start items r e h = record { long = e; small = h; same = refl }
 
   one : (l : List ℕ) (r v : ℕ) → length l ≡ 64 → v < 64 → has r v ≡ true → mapped f (set l v (f (get_or l v 0))) (without r v) ≡ mapped f l r
   one l r v e h m = is_table 64 _ _ (table_length 64 _) (λ i k. table_at 64 _ i 0 k ∙ go i k (ℕ_discrete i v))

@@ -1,11 +1,11 @@
 -- A store in one part of the words leaves the others.
-use Prim.Native.Nat.{ℕ, ◌+◌, ◌-◌, ◌*◌, ◌<◌, ◌≤◌}
+use Prim.Native.Nat.{ℕ, ◌+◌, ◌*◌, ◌<◌, ◌≤◌}
 use native.Mathlib.Omega.{arith}
 use native.Mathlib.Decide.{ℕ_discrete}
 use mathlib.Core.Path.{◌≡◌, refl, sym, ap, ap₂, subst, ◌∙◌}
 use mathlib.Core.List.{List, []}
-use lib.ListN.{length, get_or, set, take, drop, length-set, get_or-eq_default}
-use lib.Seq.{take-set-lt, take-set-le, drop-set-lt, drop-set-add, get_or-set_same, get_or-set_other, ext_get_or}
+use lib.ListN.{length, get_or, set, take, length-set, get_or-eq_default}
+use lib.Seq.{drop-set-lt, get_or-set_same, get_or-set_other, ext_get_or}
 use Rattle.sets.specs.Sets.{◌∩◌}
 use Rattle.flow.specs.Lists.{table}
 use Rattle.flow.specs.Box.{Sort, to_read, both_ways, row_of}
@@ -17,19 +17,9 @@ use Rattle.store.proofs.Parts.{part_at, part_length}
 use Rattle.store.proofs.Counting.{row_words}
 
 module _ (a n : ℕ) (w : List ℕ) where
-  pub part_in : (i v : ℕ) → i < n → part a n (set w (a + i) v) ≡ set (part a n w) i v
-  unfolding part
-  part_in i v h = ap (take n) (drop-set-add a w i v) ∙ take-set-lt n (drop a w) i v h
-
   pub part_before : (j v : ℕ) → j < a → part a n (set w j v) ≡ part a n w
   unfolding part
   part_before j v h = ap (take n) (drop-set-lt a w j v h)
-
-  pub part_after : (j v : ℕ) → a + n ≤ j → part a n (set w j v) ≡ part a n w
-  unfolding part
-  part_after j v h =
-      let e : j ≡ a + (j - a) = omega arith in
-      ap (λ (k : ℕ). take n (drop a (set w k v))) e ∙ ap (take n) (drop-set-add a w (j - a) v) ∙ take-set-le n (drop a w) (j - a) v (omega arith)
 
 -- ---- the places of process p in the words: its two sets and its words of counts
 pub data Mine (p : ℕ) : ℕ → Type 0 where
@@ -42,9 +32,6 @@ pub data Mine (p : ℕ) : ℕ → Type 0 where
 pub record Outside (p : ℕ) (w w' : List ℕ) : Type 0 where
   pub size : length w' ≡ length w
   pub same : (j : ℕ) → (Mine p j → ⊥) → get_or w' j 0 ≡ get_or w j 0
-
-pub outside_none : (p : ℕ) (w : List ℕ) → Outside p w w
-outside_none p w = record { size = refl; same = λ j h. refl }
 
 pub outside_more : {p : ℕ} {w w' w'' : List ℕ} → Outside p w w' → Outside p w' w'' → Outside p w w''
 outside_more f g = record { size = g.size ∙ f.size; same = λ j h. g.same j h ∙ f.same j h }

@@ -1,5 +1,5 @@
 -- The search for the reach, among the processes of a set.
-use Rattle.std.specs.Prelude.{ℕ, ◌≡◌, Bool, true, false, ◌||◌, List, get_or}
+use Rattle.std.specs.Prelude.{ℕ, ◌≡◌, Bool, true, false, ◌||◌, List, get_or, Option, MatchOption}
 use Rattle.sets.specs.Sets.{has}
 use Rattle.flow.specs.Box.{container_of}
 use Rattle.flow.specs.Links.{meets}
@@ -23,7 +23,6 @@ high_half = 0xFF00
 abbrev pub Within : List ℕ → ℕ → ℕ → Type 0
 Within rows left all = (p : ℕ) → has left p ≡ true → (i : ℕ) → has (get_or rows p 0) i ≡ true → has all i ≡ true
 
--- r is a process of the set left that f holds of, or 64 where there is none
-pub record Finds (f : ℕ → Bool) (left r : ℕ) : Type 0 where
-  pub found : (r ≡ 64 → ⊥) → (has left r ≡ true) × (f r ≡ true)
-  pub none : r ≡ 64 → (p : ℕ) → has left p ≡ true → f p ≡ false
+-- r is a process of the set left that f holds of, or there is none
+abbrev pub Finds : (ℕ → Bool) → ℕ → Option ℕ → Type 0
+Finds f left r = MatchOption r ((p : ℕ) → has left p ≡ true → f p ≡ false) (λ p. (has left p ≡ true) × (f p ≡ true))

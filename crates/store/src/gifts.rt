@@ -1,4 +1,5 @@
-// Gifts to the containers of a set, with those that gain, and emptying them.
+// Gifts to the containers of a set, with those that gain, and emptying them. Items are a part of the words, lent as a slice of 64: as an array
+// each caller would have to tell that it is one.
 ghost use Rattle.std.specs.Prelude.{◌≡◌, ◌%◌, length, get_or, set};
 ghost use Rattle.sets.specs.Sets.{◌∪◌};
 ghost use Rattle.flow.specs.Links.{given};
@@ -31,13 +32,10 @@ pub fn give(items: &mut [u64], r: u64, x: u64) -> u64
         return 0;
     }
     let mut lacked = r;
-    let mut left = r;
-    while left != 0 {
-        let v = sets::lowest(left) as u8;
+    for v in sets::each(r) {
         if !give_at(items, v, x) {
             lacked = sets::without(lacked, v);
         }
-        left = sets::rest(left);
     }
     lacked
 }
@@ -69,10 +67,7 @@ pub fn empty(items: &mut [u64], r: u64)
     requires { length items.old ≡ 64 }
     ensures { items.new ≡ cleared items.old r }
 {
-    let mut left = r;
-    while left != 0 {
-        let v = sets::lowest(left) as u8;
+    for v in sets::each(r) {
         empty_at(items, v);
-        left = sets::rest(left);
     }
 }

@@ -2,6 +2,7 @@
 pub const CONTAINERS: u8 = 64;
 
 // The first containers are devices, those behind them processes, and from here on files and pipes.
+// Process p is container DEVICES + p, written out where it is due: a From would be of every number, and a u8 ends at 255.
 pub const DEVICES: u8 = 8;
 
 pub const FIRST_FILE: u8 = 24;
@@ -29,17 +30,10 @@ pub const NAMES: u8 = 128;
 
 pub const ITEMS: u8 = 64;
 
-// No container and no process.
-pub const NONE: u8 = 64;
-
-// The sorts of mapping, as unmap's field b names them (document 02, Paper 4).
-pub const TO_READ: u8 = 0;
-
-pub const BOTH_WAYS: u8 = 1;
-
+// The sorts of mapping, 0 and 1, as unmap's field b names them (document 02, Paper 4).
 pub const SORTS: u8 = 2;
 
-// The mark of a closed descriptor and of an unbound name.
+// The mark of a closed descriptor and of an unbound name. A number and no option: the tables are bytes that C declares.
 pub const CLOSED: u8 = 255;
 
 // The live processes stand at 0.
@@ -57,8 +51,6 @@ pub const WAYS_AT: usize = 81;
 pub const READS_AT: usize = 97;
 
 pub const BOTHS_AT: usize = 225;
-
-pub const WORDS: usize = 353;
 
 // The words of counts of a process.
 pub const COUNTS: usize = 8;

@@ -3,70 +3,44 @@
 // come each container's items as a number, and for each item how many containers hold it, and which.
 #![tactic(auto)]
 
-ghost use Rattle.std.specs.Prelude.{◌≡◌, ◌/◌, ◌≤◌, length};
+ghost use Rattle.std.specs.Prelude.{◌≡◌, ◌/◌, length};
 ghost use Rattle.tracker.specs.View.{view};
 ghost use Rattle.test_calls.specs.Calls.{after_calls};
 
-use itoa::Buffer;
-use std::io::Read;
+use console::{Line, read_full};
+use terms::refusal::Refusal;
 use tracker::queries::Reply;
-use tracker::{Call, Tracker, Work};
-
-// Puts b at `at`, if there is room, and answers where the next byte goes.
-fn put(line: &mut [u8], at: usize, b: u8) -> usize {
-    if at < line.len() {
-        line[at] = b;
-        return at + 1;
-    }
-    at
-}
-
-// Puts the decimal digits of n at `at`.
-fn put_number(line: &mut [u8], at: usize, n: u64) -> usize {
-    let mut digits = Buffer::new();
-    let text: &[u8] = digits.format(n).as_bytes();
-    let mut next = at;
-    for i in 0..text.len() {
-        next = put(line, next, text[i]);
-    }
-    next
-}
+use tracker::{Call, Tracker};
 
 // Ends the line and writes it.
-fn write_line(rt: &impl Print, line: &mut [u8], at: usize) {
-    let end = put(line, at, b'\n');
-    if end <= line.len() {
-        let _ = rt.write_all(&line[..end]);
-    }
+fn write_line<const N: usize>(rt: &impl Print, mut line: Line<N>) {
+    line.push("\n");
+    let _ = rt.write_all(line.bytes.as_slice());
 }
 
 // Writes a number on a line of its own.
 fn print_number(rt: &impl Print, n: u64) {
-    let mut line = [0u8; 21];
-    let at = put_number(&mut line, 0, n);
-    write_line(rt, &mut line, at);
+    let mut line = Line::<21>::new();
+    line.push_number(n);
+    write_line(rt, line);
 }
 
 // Writes what a call got: 0 and the set of those that gained once its change is made, or the refusal's number.
-fn print_work(rt: &impl Print, work: Work) {
+fn print_work(rt: &impl Print, work: Result<u64, Refusal>) {
     match work {
-        Work::Done(gained) => {
-            let mut line = [0u8; 24];
-            let mut at = put(&mut line, 0, b'0');
-            at = put(&mut line, at, b' ');
-            at = put_number(&mut line, at, gained);
-            write_line(rt, &mut line, at);
+        Ok(gained) => {
+            let mut line = Line::<24>::new();
+            line.push("0 ");
+            line.push_number(gained);
+            write_line(rt, line);
         }
-        Work::Refused(n) => print_number(rt, n as u64),
+        Err(refusal) => print_number(rt, u64::from(refusal.number())),
     }
 }
 
-// A query's answer as a number.
+// A query's answer as a number, as its line has it: a refusal's number where there is none.
 fn answer(reply: Reply) -> u64 {
-    match reply {
-        Reply::Result(n) => n,
-        Reply::Refused(n) => n as u64,
-    }
+    reply.unwrap_or_else(|refusal| u64::from(refusal.number()))
 }
 
 // Runs the calls, with a line for each, and answers the tracker after them.
@@ -74,19 +48,17 @@ fn run(rt: &impl Print, calls: &[u8]) -> Tracker
     ensures { view result ≡ after_calls (length calls.now / 5) calls.now }
 {
     let mut t = Tracker::new();
-    for i in 0..calls.len() / 5 {
-        let at = 5 * i;
-        let r = t.call(Call {
-            kind: calls[at],
-            process: calls[at + 1],
-            a: calls[at + 2],
-            b: calls[at + 3],
-            c: calls[at + 4],
+    let (fives, _rest) = calls.as_chunks::<5>();
+    for &[kind, process, a, b, c] in fives {
+        let called = t.call(Call {
+            kind,
+            process,
+            a,
+            b,
+            c,
         });
-        let work = r.work;
-        let after = r.tracker;
-        t = after;
-        print_work(rt, work);
+        t = called.tracker;
+        print_work(rt, called.work);
     }
     t
 }
@@ -98,23 +70,17 @@ fn print_items(rt: &impl Print, t: Tracker) {
     }
 }
 
-fn wide(x: u16) -> u64 {
-    x as u64
-}
-
 // Writes how many containers hold item i, and which.
 fn print_holders_of(rt: &impl Print, t: Tracker, i: u8) {
     let mut found = [0u16; 64];
     let n = answer(t.holders(i, &mut found));
-    let mut line = [0u8; 256];
-    let mut at = put_number(&mut line, 0, n);
-    let mut k = 0usize;
-    while k < 64 && (k as u64) < n {
-        at = put(&mut line, at, b' ');
-        at = put_number(&mut line, at, wide(found[k]));
-        k += 1;
+    let mut line = Line::<256>::new();
+    line.push_number(n);
+    for holder in found.iter().take(n as usize) {
+        line.push(" ");
+        line.push_number(u64::from(*holder));
     }
-    write_line(rt, &mut line, at);
+    write_line(rt, line);
 }
 
 // Writes the holders of each item.
@@ -122,20 +88,6 @@ fn print_holders(rt: &impl Print, t: Tracker) {
     for i in 0u8..64 {
         print_holders_of(rt, t, i);
     }
-}
-
-// Reads until `buffer` is full, the input ends or a read fails, and answers how many bytes it put at the front.
-fn read_full<R: Read>(input: &mut R, buffer: &mut [u8]) -> usize
-    ensures { result ≤ length buffer.new }
-{
-    let mut done = 0usize;
-    while done < buffer.len() {
-        match input.read(&mut buffer[done..]) {
-            Ok(n) if 0 < n => done += n,
-            _ => break,
-        }
-    }
-    done
 }
 
 fn main(rt: HostRuntime) {

@@ -8,9 +8,11 @@ use mathlib.Core.List.{List}
 use lib.Dec.{eqb}
 use lib.ListN.{get_or, length}
 use borrow.Author.Tests.{eqb-true, eq-eqb, ne_eqb}
-use Rattle.sets.specs.Sets.{has, only, without, lowest, ◌∪◌, ◌∩◌}
+use Rattle.std.specs.Prelude.{Some}
+use Rattle.sets.specs.Sets.{has, only, without, ◌∪◌, ◌∩◌}
+use Rattle.sets.specs.Members.{TakesLowest}
 use Rattle.sets.proofs.Members.{union_has, inter_has, inter_lt, only_has, none_has, those_has, those_lt, only_lt, set_ext, without_lt, without_at, without_other, member, turn_below}
-use Rattle.flow.specs.Box.{Tables, is_file, closed, feeders_of}
+use Rattle.flow.specs.Box.{Tables, is_file, feeders_of}
 use Rattle.flow.specs.Links.{is_fed, used}
 use Rattle.flow.specs.Calls.{block}
 use Rattle.flow.proofs.Bools.{by, and_l, and_r, and_i, or_elim, same, chosen_l, chosen_r}
@@ -18,16 +20,16 @@ use Rattle.flow.proofs.TableLaws.{table_at, table_length, is_table}
 use Rattle.store.specs.Maps.{Maps, with_items, cleared, files, files_in, file_set, container_set}
 use Rattle.store.proofs.Worklist.{cleared_none}
 use Rattle.store.proofs.Files.{file_range, file_set_file, file_set_none, file_set_has, files_in_file, files_has, container_set_low}
-use Rattle.tracker.specs.Plans.{free_set, free_at, held_by, gone_of}
+use Rattle.tracker.specs.Plans.{free_set, held_by, gone_of}
 
 -- ---- what no link leads into
-pub free_entry : (t : Tables) (c : ℕ) → c < 64 → container_set (free_at t c) ≡ free_set t c
-unfolding free_at free_set container_set
-free_entry t c h = go (is_fed t c)
-  where
-    go : (b : Bool) → container_set (elim b [ true ↦ closed | false ↦ c ]) ≡ elim b [ true ↦ 0 | false ↦ only c ]
-    go true = refl
-    go false = container_set_low c h
+pub fed_none : (t : Tables) (c : ℕ) → is_fed t c ≡ true → 0 ≡ free_set t c
+unfolding free_set
+fed_none t c e = sym (chosen_l (is_fed t c) 0 (only c) e)
+
+pub fed_some : (t : Tables) (c : ℕ) → c < 64 → is_fed t c ≡ false → container_set c ≡ free_set t c
+unfolding free_set container_set
+fed_some t c h e = container_set_low c h ∙ sym (chosen_r (is_fed t c) 0 (only c) e)
 
 -- ---- what is emptied in two steps
 pub cleared_join : (l : List ℕ) (x y z : ℕ) → ((c : ℕ) → c < 64 → (has x c || has y c) ≡ has z c) → cleared (cleared l x) y ≡ cleared l z
@@ -114,16 +116,17 @@ pub releasing_start : (m : Maps) (held : ℕ) → held < 2 ^ 64 → length m.ite
 releasing_start m held h l = record { small = h; long = l; tables = refl; same = refl }
 
 module _ {m₀ m : Maps} {held left : ℕ} (r : Releasing m₀ m held left) where
-  pub releasing_more : (left ≡ 0 → ⊥) → (v : ℕ) → v ≡ lowest left → (m' : Maps) (later : ℕ) → m' ≡ with_items m (cleared m.items (gone_of m.tables (file_set v))) → later ≡ without left (lowest left) → Releasing m₀ m' held later
+  pub releasing_more : (v later : ℕ) → TakesLowest left (Some v) later → (m' : Maps) → m' ≡ with_items m (cleared m.items (gone_of m.tables (file_set v))) → Releasing m₀ m' held later
   unfolding cleared
-  releasing_more more v is m' later e g =
-      let l : v < 64 = turn_below left r.small more v is in
-      rw (e, g, ← is, r.tables)
+  releasing_more v later took m' e =
+      let l : v < 64 = turn_below left r.small took.0 v took.1 in
+      let g : later ≡ without left v = took.2 ∙ ap (without left) (sym took.1) in
+      rw (e, g, r.tables)
       (record {
         small = without_lt left v;
         long = table_length 64 _;
         tables = refl;
-        same = cleared_join m.items _ _ _ (gone_turn m₀.tables left v l (member left r.small more v is)) ∙ r.same;
+        same = cleared_join m.items _ _ _ (gone_turn m₀.tables left v l (member left r.small took.0 v took.1)) ∙ r.same;
       })
 
   pub releasing_end : left ≡ 0 → m ≡ with_items m₀ (cleared m₀.items (gone_of m₀.tables (held ∩ files)))

@@ -10,14 +10,16 @@ use lib.Dec.{eqb, ltb}
 use lib.ListN.{length, take, drop, get_or, set, length-set, take-append-drop}
 use lib.Seq.{append_snoc, take-suc-set, drop-set-lt, drop-drop}
 use borrow.Author.Tests.{eq-eqb, ne_eqb, lt-ltb, le-ltb, ltb-true, ltb-false}
-use Rattle.sets.specs.Sets.{has, only, ◌∪◌, those, members, without, count, lowest}
-use Rattle.sets.proofs.Members.{those_has, those_lt, without_lt, none_has, only_has, only_lt, union_has, union_lt, set_ext, count_less, count_none, member, turn_below, itself, turn_fewer}
+use Rattle.std.specs.Prelude.{Ok, Err, Some}
+use Rattle.sets.specs.Sets.{has, only, ◌∪◌, those, members, without, count}
+use Rattle.sets.specs.Members.{TakesLowest}
+use Rattle.sets.proofs.Members.{those_has, those_lt, without_lt, none_has, only_has, only_lt, union_has, union_lt, set_ext, count_le, count_less, count_none, member}
 use Rattle.sets.proofs.Rising.{members_none, members_next, members_those, members_count}
 use Rattle.flow.specs.Box.{State, items_of, holds}
-use Rattle.flow.specs.Queries.{refuse, result, items_query, holders, reply_by, holders_query, slice_by, holders_slice}
+use Rattle.flow.specs.Queries.{holders, reply_by, holders_query, slice_by, holders_slice}
 use Rattle.flow.proofs.Bools.{by, chosen_l, chosen_r}
 use Rattle.flow.proofs.Holders.{refusal_range, refusal_short, refusal_none}
-use Rattle.tracker.specs.declared.queries.Reply.TheVariants.{Result, Refused}
+use Rattle.terms.specs.declared.refusal.Refusal.TheVariants.{OutOfRange, SliceShort}
 use Rattle.tracker.specs.Replies.{reply_of, AnswersHolders, with_holder}
 
 -- ---- the set of the holders
@@ -95,42 +97,40 @@ pub partly_none : (x : ℕ) (l : List ℕ) → x < 2 ^ 64 → Partly x l l x 0
 partly_none x l h = record { small = h; number = omega arith; long = refl; listed = refl; rest = refl }
 
 -- what a turn needs, where c is the lowest member of those left, and what it ends with, where `later` is left then
-pub record Turn (x : ℕ) (before now : List ℕ) (left n c : ℕ) : Type 0 where
-  pub below : c < 64
+pub record Turn (x : ℕ) (before now : List ℕ) (n c later : ℕ) : Type 0 where
   pub room : n < length now
-  pub fewer : (later : ℕ) → later ≡ without left (c % 64) → count later < count left
-  pub next : (later : ℕ) → later ≡ without left (c % 64) → Partly x before (set now n c) later (n + 1)
+  pub next : Partly x before (set now n c) later (n + 1)
 
 module _ (x : ℕ) (before now : List ℕ) (left n : ℕ) (p : Partly x before now left n) where
-  module _ (more : left ≡ 0 → ⊥) (fits : count x ≤ length before) (c : ℕ) (is : c ≡ lowest left) where
+  -- the iterator counts no further than a u64 does
+  pub counted_on : x < 2 ^ 64 → n + count left < 2 ^ 64
+  counted_on h = omega (arith, p.number, count_le x h)
+
+  module _ (fits : count x ≤ length before) (c later : ℕ) (took : TakesLowest left (Some c) later) where
     there : has left c ≡ true
-    there = member left p.small more c is
+    there = member left p.small took.0 c took.1
 
-    one_less : count left ≡ count (without left c) + 1
-    one_less = count_less left c p.small there
+    after : later ≡ without left c
+    after = took.2 ∙ ap (without left) (sym took.1)
 
-    in_range_lem : n < length now
-    in_range_lem = omega (arith, one_less)
+    one_less : count left ≡ count later + 1
+    one_less = rw after (count_less left c p.small there)
 
-    after : Partly x before (set now n c) (without left c) (n + 1)
-    after =
-        record {
-          small = without_lt left c;
-          number = omega (arith, one_less);
-          long = length-set now n c ∙ p.long;
-          listed =
-              rw (add-one, take-suc-set now n c in_range_lem, append_snoc (take n now) c (members (without left c)), ← members_next left c p.small there is)
-              p.listed;
-          rest = drop-set-lt (n + 1) now n c (omega arith) ∙ sym (drop-drop 1 n now) ∙ ap (drop 1) p.rest ∙ drop-drop 1 n before;
-        }
-
-    pub partly_more : Turn x before now left n c
+    pub partly_more : Turn x before now n c later
     partly_more =
+        let room : n < length now = omega (arith, one_less, p.number, p.long) in
         record {
-          below = turn_below left p.small more c is;
-          room = in_range_lem;
-          fewer = turn_fewer left p.small more c is;
-          next = λ later e. rw (e, itself left p.small more c is) after;
+          room = room;
+          next =
+              record {
+                small = rw after (without_lt left c);
+                number = omega (arith, one_less, p.number);
+                long = length-set now n c ∙ p.long;
+                listed =
+                    rw (add-one, take-suc-set now n c room, append_snoc (take n now) c (members later), after, ← members_next left c p.small there took.1)
+                    p.listed;
+                rest = drop-set-lt (n + 1) now n c (omega arith) ∙ sym (drop-drop 1 n now) ∙ ap (drop 1) p.rest ∙ drop-drop 1 n before;
+              };
         }
 
   module _ (over : left ≡ 0) where
@@ -146,16 +146,8 @@ module _ (x : ℕ) (before now : List ℕ) (left n : ℕ) (p : Partly x before n
 
 -- ---- the answers, in any state
 module _ (s : State) (i : ℕ) where
-  pub items_given : i < 64 → reply_of (Result (items_of s i)) ≡ items_query s i
-  unfolding reply_of items_query
-  items_given h = sym (chosen_l (ltb i 64) (result (items_of s i)) (refuse 5) (lt-ltb i 64 h))
-
-  pub items_refused : 64 ≤ i → reply_of (Refused 5) ≡ items_query s i
-  unfolding reply_of items_query
-  items_refused h = sym (chosen_r (ltb i 64) (result (items_of s i)) (refuse 5) (le-ltb i 64 h))
-
   module _ (before : List ℕ) where
-    pub refused_range : 64 ≤ i → AnswersHolders s i before (Refused 5) before
+    pub refused_range : 64 ≤ i → AnswersHolders s i before (Err OutOfRange) before
     unfolding reply_of holders_query reply_by holders_slice slice_by
     refused_range h = let e = refusal_range s i (length before) h in record { answer = rw e; slice = rw e refl }
 
@@ -171,11 +163,11 @@ module _ (s : State) (i : ℕ) where
       is_length : n ≡ length (holders s i)
       is_length = counted ∙ sym (members_count x (rw is_set (those_lt (λ c. holds s c i)))) ∙ ap length is_list
 
-      pub refused_short : length before < n → AnswersHolders s i before (Refused 13) before
+      pub refused_short : length before < n → AnswersHolders s i before (Err SliceShort) before
       unfolding reply_of holders_query reply_by holders_slice slice_by
       refused_short l = let e = refusal_short s i (length before) h (omega (arith, is_length)) in record { answer = rw e; slice = rw e refl }
 
-      pub holders_given : (now : List ℕ) → n ≤ length before → now ≡ members x ++ drop (count x) before → AnswersHolders s i before (Result n) now
+      pub holders_given : (now : List ℕ) → n ≤ length before → now ≡ members x ++ drop (count x) before → AnswersHolders s i before (Ok n) now
       unfolding reply_of holders_query reply_by holders_slice slice_by
       holders_given now l f =
           let e = refusal_none s i (length before) h (omega (arith, is_length)) in

@@ -1,9 +1,9 @@
 -- The parts of a call together: refusals, tables, items and what is released make the maps that the definitions say.
-use Prim.Native.Nat.{ℕ, zero, suc, ◌+◌, ◌%◌, ◌<◌}
+use Prim.Native.Nat.{ℕ, ◌+◌, ◌%◌, ◌<◌}
 use native.Mathlib.Omega.{arith}
 use mathlib.Core.Path.{◌≡◌, refl, sym, ap, ap₂, ◌∙◌}
 use mathlib.Core.Bool.{Bool, true, false, not, ◌&&◌, ◌||◌, and_comm, true≢false}
-use mathlib.Core.List.{List, [], ◌∷◌}
+use mathlib.Core.List.{List}
 use mathlib.Core.Option.{Option, none, some}
 use lib.Dec.{eqb}
 use lib.Bits.{or_zero_l}
@@ -12,14 +12,11 @@ use lib.Seq.{ext_get_or}
 use borrow.Author.Tests.{ltb-true, eqb-true, eq-eqb, ne_eqb}
 use Rattle.sets.specs.Sets.{has, only, ◌∪◌, ◌∩◌}
 use Rattle.sets.proofs.Members.{those_has, none_has, only_has, union_has, without_has, eqb_sym}
-use Rattle.flow.specs.Lists.{first_that, refusal_from}
+use Rattle.flow.specs.Lists.{first_that}
 use Rattle.flow.specs.Box.{container_of, Tables, descriptor}
 use Rattle.flow.specs.Links.{reach, given, given_from, is_fed, used}
 use Rattle.flow.specs.MapBoth.{in_sequence}
-use Rattle.flow.specs.Calls.{Kind, kind_number, start, open_name, create, pipe, device, dup, close, read, write, truncate, map_read, map_both, unmap, unlink, rename, link, fork, exit, label, Call as Asked, Flow, still, gift, arrival, exchange, copy, clear, Change, with_live, with_row, with_rows, with_descriptors, tables_by, flow_by, change, moved, ended, items_after}
-use Rattle.flow.specs.Records.{kinds, kind_of, call_by, call_from}
-use Rattle.flow.specs.Consequences.{KindsNumbered}
-use Rattle.flow.proofs.KindLaws.{kinds_numbered}
+use Rattle.flow.specs.Calls.{Kind, start, open_name, create, pipe, device, dup, close, read, write, truncate, map_read, map_both, unmap, unlink, rename, link, fork, exit, label, Call, Flow, still, gift, arrival, exchange, copy, clear, Change, with_live, with_row, with_rows, with_descriptors, tables_by, flow_by, change, moved, ended, items_after}
 use Rattle.flow.specs.Refusals.{ranges, in_range, call_tests}
 use Rattle.flow.specs.Gained.{has_more, gained}
 use Rattle.flow.proofs.GainLaws.{more_some, some_more, gained_at, gained_lt, gained_is, gained_none}
@@ -34,11 +31,9 @@ use Rattle.store.specs.declared.Plan.{Plan}
 use Rattle.store.specs.Maps.{Maps, with_tables, with_items, view, cleared, files, items_in, items_by, gifts, replacing, MakesItems}
 use Rattle.store.proofs.Words.{by_length}
 use Rattle.store.proofs.Worklist.{cleared_none}
-use Rattle.tracker.specs.declared.Call.{Call}
-use Rattle.tracker.specs.Rows.{asked, call_in, tables_at, Passes}
-use Rattle.tracker.specs.Plans.{nothing, plan_of, plan_by, plan_at, gives_by, gives_at, free_set, emptied_by, emptied_at, giving, held_by, lost_by, lost_at, gone_of}
-use Rattle.tracker.specs.Worked.{given as given_by, finished, Worked, done, maps_by, worked, Foreseen}
-use Rattle.tracker.proofs.Arms.{kind_rest}
+use Rattle.tracker.specs.Rows.{tables_for, Passes}
+use Rattle.tracker.specs.Plans.{nothing, plan_of, plan_by, plan_for, gives_by, free_set, emptied_by, emptied_for, giving, held_by, lost_by, lost_for, gone_of}
+use Rattle.tracker.specs.Worked.{given as given_by, finished, done, maps_by, worked, Makes, Foreseen}
 use Rattle.tracker.proofs.Facts.{fit_process}
 use Rattle.tracker.proofs.Finding.{gone_none, gone_held}
 use Rattle.tracker.proofs.Ending.{Ends, ends}
@@ -151,47 +146,77 @@ quiet_by m p a b c fork h = absurd (true≢false h)
 quiet_by m p a b c exit h = refl
 quiet_by m p a b c label h = absurd (true≢false h)
 
-pub quiet : (m : Maps) (q : Call) (o : Option Kind) → gives_at o ≡ false → plan_at m q o ≡ nothing
-unfolding gives_at plan_at
-quiet m q none h = refl
-quiet m q (some k) h = quiet_by m q.process q.a q.b q.c k h
+pub quiet : (m : Maps) (q : Call) → gives_by q.kind ≡ false → plan_for m q ≡ nothing
+unfolding plan_for
+quiet m q h = quiet_by m q.process q.a q.b q.c q.kind h
 
 -- and leaves the maps as they are
-pub quiet_given : (m : Maps) → length m.items ≡ 64 → (q : Call) → gives_at (kind_of q.kind) ≡ false → m ≡ given_by m q
+pub quiet_given : (m : Maps) → length m.items ≡ 64 → (q : Call) → gives_by q.kind ≡ false → m ≡ given_by m q
 unfolding given_by
-quiet_given m long q h = ap (with_items m) (sym (ap (items_by m.items) (quiet m q (kind_of q.kind) h) ∙ unmoved m long))
+quiet_given m long q h = ap (with_items m) (sym (ap (items_by m.items) (quiet m q h) ∙ unmoved m long))
 
 -- a call that passes still does while the tables are the same, so once its gifts are made
-pub passes_on : (w d n x : List ℕ) (q : Call) → Passes w d n q → (view x d n).tables ≡ (view w d n).tables → Passes x d n q
-passes_on w d n x q h e = record { none_holds = ap (λ (t : Tables). first_that (call_tests t (call_in q))) e ∙ h.none_holds }
+pub passes_on : {m after : Maps} (q : Call) → Passes m q → after.tables ≡ m.tables → Passes after q
+passes_on q h e = record { none_holds = ap (λ (t : Tables). first_that (call_tests t (some q))) e ∙ h.none_holds }
 
-pub still_passes : (w d n x : List ℕ) (q : Call) → Passes w d n q → view x d n ≡ given_by (view w d n) q → Passes x d n q
+pub still_passes : {m after : Maps} (q : Call) → Passes m q → after ≡ given_by m q → Passes after q
 unfolding given_by
-still_passes w d n x q h e = passes_on w d n x q h (ap (λ (m : Maps). m.tables) e)
+still_passes q h e = passes_on q h (ap (λ (m : Maps). m.tables) e)
 
 -- ---- a call that can give: its plan is made
--- the plan of any call but a fork empties nothing
-pub gifts_alone : (m : Maps) (q : Call) → (q.kind ≡ 17 → ⊥) → gifts (plan_at m q (kind_of q.kind)) ≡ plan_at m q (kind_of q.kind)
-unfolding plan_at plan_by plan_of flow_by kinds
-gifts_alone m q n =
-    let p : Plan = plan_at m q (kind_of q.kind) in
-    ap (λ (e : ℕ). record { empty = e; given = p.given; to = p.to; given2 = p.given2; to2 = p.to2 }) (kind_rest (λ o. (plan_at m q o).empty) ((17 ∷ []) ∷ []) refl _ (tt, n))
+-- no plan but a fork's empties anything
+empties_none : (m : Maps) (p a b c : ℕ) (k : Kind) → (k ≡ fork → ⊥) → (plan_by m p a b c k).empty ≡ 0
+unfolding plan_by plan_of flow_by
+empties_none m p a b c start n = refl
+empties_none m p a b c open_name n = refl
+empties_none m p a b c create n = refl
+empties_none m p a b c pipe n = refl
+empties_none m p a b c device n = refl
+empties_none m p a b c dup n = refl
+empties_none m p a b c close n = refl
+empties_none m p a b c read n = refl
+empties_none m p a b c write n = refl
+empties_none m p a b c truncate n = refl
+empties_none m p a b c map_read n = refl
+empties_none m p a b c map_both n = refl
+empties_none m p a b c unmap n = refl
+empties_none m p a b c unlink n = refl
+empties_none m p a b c rename n = refl
+empties_none m p a b c link n = refl
+empties_none m p a b c fork n = absurd (n refl)
+empties_none m p a b c exit n = refl
+empties_none m p a b c label n = refl
 
-pub both_no_fork : (n : ℕ) → n ≡ 12 → n ≡ 17 → ⊥
-both_no_fork n e f = let y : ⊥ = omega (arith, e, f) in y
+pub gifts_alone : (m : Maps) (q : Call) → (q.kind ≡ fork → ⊥) → gifts (plan_for m q) ≡ plan_for m q
+unfolding plan_for
+gifts_alone m q n =
+    let p : Plan = plan_for m q in
+    ap (λ (e : ℕ). record { empty = e; given = p.given; to = p.to; given2 = p.given2; to2 = p.to2 }) (sym (empties_none m q.process q.a q.b q.c q.kind n))
+
+pub both_no_fork : (k : Kind) → k ≡ map_both → k ≡ fork → ⊥
+both_no_fork k e f = let z : map_both ≡ fork = sym e ∙ f in cc
 
 -- that of a fork replaces what the child holds
-pub copies : (m : Maps) (q : Call) → q.kind ≡ 17 → (8 + q.a) % 64 ≡ container_of q.a → (x : ℕ) → x ≡ (plan_at m q (kind_of q.kind)).given
-    → replacing ((8 + q.a) % 64) x ≡ plan_at m q (kind_of q.kind)
-unfolding plan_at plan_by plan_of flow_by kinds kind_of
+pub copies : (m : Maps) (q : Call) → q.kind ≡ fork → (8 + q.a) % 64 ≡ container_of q.a → (x : ℕ) → x ≡ (plan_for m q).given
+    → replacing ((8 + q.a) % 64) x ≡ plan_for m q
+unfolding plan_for plan_by plan_of flow_by
 copies m q k c x e = rw (c, e, k) refl
 
+-- the items are made by the gifts of a plan that empties nothing, or by what it replaces
+pub makes_plan : (w d n x : List ℕ) (p plan : Plan) (g : ℕ) → p ≡ plan → MakesItems w p x g → Makes (view w d n) plan (view x d n) g
+unfolding view
+makes_plan w d n x p plan g e h =
+    record {
+      made = h.made d n ∙ ap (λ (y : Plan). with_items (view w d n) (items_by (view w d n).items y)) e;
+      told = h.told ∙ ap (λ (y : Plan). gained (items_in w) (items_by (items_in w) y)) e;
+    }
+
 -- the maps once it is made, and those that gained
-pub gives_by_lem : (w d n x : List ℕ) (q : Call) (plan : Plan) (g : ℕ) → plan ≡ plan_at (view w d n) q (kind_of q.kind) → MakesItems w plan x g
-    → (view x d n ≡ given_by (view w d n) q) × (g ≡ gained (view w d n).items (given_by (view w d n) q).items)
-unfolding given_by view
-gives_by_lem w d n x q plan g e h =
-    (h.made d n ∙ ap (λ (p : Plan). with_items (view w d n) (items_by (view w d n).items p)) e, h.told ∙ ap (λ (p : Plan). gained (items_in w) (items_by (items_in w) p)) e)
+pub gives_by_lem : (m after : Maps) (q : Call) (plan : Plan) (g : ℕ) → plan ≡ plan_for m q → Makes m plan after g
+    → (after ≡ given_by m q) × (g ≡ gained m.items (given_by m q).items)
+unfolding given_by
+gives_by_lem m after q plan g e h =
+    (h.made ∙ ap (λ (p : Plan). with_items m (items_by m.items p)) e, h.told ∙ ap (λ (p : Plan). gained m.items (items_by m.items p)) e)
 
 -- ---- what is released
 lost_ended : (m : Maps) (x : Change) (lost : ℕ) → Ends m.tables x.tables lost
@@ -234,6 +259,10 @@ dropped l x u g = is_table 64 _ _ (table_length 64 _) (λ v h. table_at 64 _ v 0
 
 -- ---- a call that is not refused
 module _ (m : Maps) (long : length m.items ≡ 64) (sized : Sized m.tables) (ln : length m.tables.names ≡ 128) (q : Call) where
+  -- the same call of another kind
+  abbrev as_kind : Kind → Call
+  as_kind k = record { kind = k; process = q.process; a = q.a; b = q.b; c = q.c }
+
   abbrev tables_of : Kind → Tables
   tables_of k = tables_by m.tables q.process q.a q.b q.c k
 
@@ -279,24 +308,18 @@ module _ (m : Maps) (long : length m.items ≡ 64) (sized : Sized m.tables) (ln 
   drops exit h l = dropped l (gone exit) (container_of q.process) (exit_gone h)
 
   -- the items moved, then what is no longer in use emptied
-  made : (k : Kind) → Accepted m.tables (asked q k) → cleared (cleared (items_by m.items (planned k)) (emptied k)) (gone k) ≡ items_after m.tables m.items (change m.tables (asked q k))
+  made : (k : Kind) → Accepted m.tables (as_kind k) → cleared (cleared (items_by m.items (planned k)) (emptied k)) (gone k) ≡ items_after m.tables m.items (change m.tables (as_kind k))
   unfolding change
   made k h =
-      let p : q.process < 16 = fit_process q k h.fits in
+      let p : q.process < 16 = fit_process (as_kind k) h.fits in
       drops k p (items_by m.items (planned k))
       ∙ ap (λ (l : List ℕ). cleared l (gone k)) (ap (λ (x : Plan). cleared (items_by m.items x) (emptied_of m long (flow_by m.tables q.process q.a q.b q.c k))) (plan_is m q.process q.a q.b q.c k) ∙ moved_made m long (flow_by m.tables q.process q.a q.b q.c k))
-      ∙ sym (lost_ended m (change m.tables (asked q k)) _ (ends m.tables sized ln q.process q.a q.b q.c p k h))
-
-  finished_by : (o : Option Kind) → first_that (call_tests m.tables (call_by o q.process q.a q.b q.c)) ≡ none
-      → record { tables = tables_at m.tables q o; items = cleared (cleared (items_by m.items (plan_at m q o)) (emptied_at m.tables q o)) (gone_of (tables_at m.tables q o) (lost_at m.tables q o)) } ≡ maps_by m (call_by o q.process q.a q.b q.c) none
-  unfolding call_by call_tests first_that maps_by tables_at plan_at emptied_at lost_at change
-  finished_by none e = absurd (let z : ◌≡◌ {A = ℕ} 0 1 = cc in let y : ⊥ = omega arith in y)
-  finished_by (some k) e = ap (λ (l : List ℕ). record { tables = tables_of k; items = l }) (made k (accepted m.tables (asked q k) e))
+      ∙ sym (lost_ended m (change m.tables (as_kind k)) _ (ends m.tables sized ln q.process q.a q.b q.c p k h))
 
   -- gifts and the rest together are the call
-  pub finished_call : first_that (call_tests m.tables (call_in q)) ≡ none → finished (given_by m q) q ≡ maps_by m (call_in q) none
-  unfolding call_from given_by finished
-  finished_call e = finished_by (kind_of q.kind) e
+  pub finished_call : first_that (call_tests m.tables (some q)) ≡ none → finished (given_by m q) q ≡ maps_by m (some q) none
+  unfolding given_by finished maps_by tables_for plan_for emptied_for lost_for change
+  finished_call e = ap (λ (l : List ℕ). record { tables = tables_of q.kind; items = l }) (made q.kind (accepted m.tables q e))
 
   -- ---- what the plan foresees
   -- where nothing is given, nobody receives
@@ -310,7 +333,7 @@ module _ (m : Maps) (long : length m.items ≡ 64) (sized : Sized m.tables) (ln 
       let u : used (tables_of fork) v ≡ true = rw (← (eqb-true (container_of q.a) v e)) (used_process (tables_of fork) q.a l ∙ now_live m.tables.live q.a) in
       those_has _ v h ∙ rw u (and_comm (has (held_by m.tables q.a) v) false)
 
-  stays : (k : Kind) → Accepted m.tables (asked q k) → (v : ℕ) → v < 64 → has ((planned k).to ∪ (planned k).to2) v ≡ true → (has (gone k) v ≡ false) × (has (emptied k) v ≡ false)
+  stays : (k : Kind) → Accepted m.tables (as_kind k) → (v : ℕ) → v < 64 → has ((planned k).to ∪ (planned k).to2) v ≡ true → (has (gone k) v ≡ false) × (has (emptied k) v ≡ false)
   unfolding plan_by plan_of flow_by lost_by emptied_by ranges in_range
   stays start h v l r = nobody v r
   stays open_name h v l r = nobody v r
@@ -328,34 +351,25 @@ module _ (m : Maps) (long : length m.items ≡ 64) (sized : Sized m.tables) (ln 
   stays unlink h v l r = nobody v r
   stays rename h v l r = nobody v r
   stays link h v l r = nobody v r
-  stays fork h v l r = (fork_stays (ltb-true q.a 16 (fits_a (ranges fork) (asked q fork) h.fits)) v l r, none_has v)
+  stays fork h v l r = (fork_stays (ltb-true q.a 16 (fits_a (ranges fork) (as_kind fork) h.fits)) v l r, none_has v)
   stays exit h v l r = nobody v r
   stays label h v l r = (none_gone _ v l, none_has v)
 
-  foreseen_by : (k : Kind) → Accepted m.tables (asked q k) → Foreseen m.items (items_after m.tables m.items (change m.tables (asked q k))) (planned k)
+  foreseen_by : (k : Kind) → Accepted m.tables (as_kind k) → Foreseen m.items (items_after m.tables m.items (change m.tables (as_kind k))) (planned k)
   unfolding cleared
   foreseen_by k h =
       let y : ℕ → ℕ = λ v. get_or (items_by m.items (planned k)) v 0 in
-      let at : (v : ℕ) → v < 64 → get_or (items_after m.tables m.items (change m.tables (asked q k))) v 0 ≡ unless (has (gone k) v) (unless (has (emptied k) v) (y v)) =
+      let at : (v : ℕ) → v < 64 → get_or (items_after m.tables m.items (change m.tables (as_kind k))) v 0 ≡ unless (has (gone k) v) (unless (has (emptied k) v) (y v)) =
       λ v l. ap (λ (x : List ℕ). get_or x v 0) (sym (made k h)) ∙ table_at 64 _ v 0 l ∙ ap (unless (has (gone k) v)) (table_at 64 _ v 0 l) in
       record {
         less = λ v i l e. unless_less (has (emptied k) v) (y v) i (unless_less (has (gone k) v) _ i (ap (λ (x : ℕ). has x i) (sym (at v l)) ∙ e));
         same = λ v l r. let s = stays k h v l r in at v l ∙ chosen_r (has (gone k) v) 0 _ s.0 ∙ chosen_r (has (emptied k) v) 0 _ s.1;
       }
 
-  foreseen_at : (o : Option Kind) (x : Asked) → call_by o q.process q.a q.b q.c ≡ some x → first_that (call_tests m.tables (call_by o q.process q.a q.b q.c)) ≡ none
-      → Foreseen m.items (items_after m.tables m.items (change m.tables x)) (plan_at m q o)
-  unfolding call_by plan_at
-  foreseen_at none x d g = absurd (let z : ◌≡◌ {A = ℕ} 0 1 = cc in let y : ⊥ = omega arith in y)
-  foreseen_at (some k) x d g =
-      let e : asked q k ≡ x = cc in
-      rw (← e) (foreseen_by k (accepted m.tables (asked q k) g))
-
   -- of a call that is not refused
-  pub foreseen : (x : Asked) → call_in q ≡ some x → first_that (call_tests m.tables (call_in q)) ≡ none
-      → Foreseen m.items (items_after m.tables m.items (change m.tables x)) (plan_at m q (kind_of q.kind))
-  unfolding call_from
-  foreseen x e f = foreseen_at (kind_of q.kind) x e f
+  pub foreseen : first_that (call_tests m.tables (some q)) ≡ none → Foreseen m.items (items_after m.tables m.items (change m.tables q)) (plan_for m q)
+  unfolding plan_for
+  foreseen e = foreseen_by q.kind (accepted m.tables q e)
 
 -- a gift alone, where the tables stay, is its plan (01, What a record gets: a diverted write)
 pub gift_made : (m : Maps) → length m.items ≡ 64 → (g u : ℕ)
@@ -367,29 +381,13 @@ gift_made m long g u =
     ∙ sym (moved_made m long (gift g u)) ∙ kept (items_by m.items (plan_of m (gift g u))) (by_length _ _)
 
 -- ---- what `work` answers
-worked_refusal : (m : Maps) (q : Option Asked) → (worked m q).refusal ≡ first_that (call_tests m.tables q)
+pub refused : (m : Maps) (q : Option Call) (n : ℕ) → some n ≡ first_that (call_tests m.tables q) → done (some n) m 0 ≡ worked m q
+unfolding worked maps_by
+refused m q n e = rw (← e, gained_none m.items m.items (λ c i l h. h)) refl
+
+pub worked_out : (m w : Maps) (q : Option Call) (g : ℕ) → first_that (call_tests m.tables q) ≡ none → w ≡ maps_by m q none → g ≡ gained m.items (maps_by m q none).items
+    → done none w g ≡ worked m q
 unfolding worked
-worked_refusal m q = refl
-
-by_number : (m : Maps) (q : Option Asked) (n : ℕ) (o : Option ℕ) → refusal_from n ≡ o → (n ≡ 0 → ⊥) → m ≡ maps_by m q o
-unfolding refusal_from maps_by
-by_number m q zero o e z = absurd (z refl)
-by_number m q (suc n) o e z = rw (← e) refl
-
-pub refused : (m : Maps) (q : Option Asked) (n : ℕ) → refusal_from n ≡ first_that (call_tests m.tables q) → (n ≡ 0 → ⊥) → done (refusal_from n) m 0 ≡ worked m q
-unfolding worked
-refused m q n e z =
-    let k : m ≡ maps_by m q (first_that (call_tests m.tables q)) = by_number m q n _ e z in
-    let g : gained m.items (maps_by m q (first_that (call_tests m.tables q))).items ≡ 0 = rw (← k) (gained_none m.items m.items (λ c i l h. h)) in
-    rw g (ap₂ (λ (r : Option ℕ) (w : Maps). done r w 0) e k)
-
-pub passes : (n : ℕ) (o : Option ℕ) → refusal_from n ≡ o → n ≡ 0 → o ≡ none
-unfolding refusal_from
-passes n o e z = sym e ∙ rw z refl
-
-pub worked_out : (m w : Maps) (q : Option Asked) (g : ℕ) → first_that (call_tests m.tables q) ≡ none → w ≡ maps_by m q none → g ≡ gained m.items (maps_by m q none).items
-    → done (refusal_from 0) w g ≡ worked m q
-unfolding worked refusal_from
 worked_out m w q g e h f = rw e (ap₂ (done none) h f)
 
 -- ---- what gains by a call gains by its plan (02, Paper 5)
@@ -409,28 +407,14 @@ module _ (items after : List ℕ) (p : Plan) (f : Foreseen items after p) where
       (λ z. let g = some_more _ _ e in no_both (not_given v g.0 h z g.1) g.2))
       (λ e. let g = some_more _ _ e in more_some _ _ g.0 (f.less v g.0 h g.1) g.2))
 
-module _ (m : Maps) (long : length m.items ≡ 64) (sized : Sized m.tables) (ln : length m.tables.names ≡ 128) (q : Call) (e : first_that (call_tests m.tables (call_in q)) ≡ none) where
-  told_by_lem : (o : Option Asked) → call_in q ≡ o → gained m.items (given_by m q).items ≡ gained m.items (maps_by m o none).items
-  unfolding given_by maps_by call_tests first_that
-  told_by_lem none c = absurd (let z : first_that (call_tests m.tables none) ≡ none = rw c at e in let y : ◌≡◌ {A = ℕ} 0 1 = cc in let w : ⊥ = omega arith in w)
-  told_by_lem (some x) c = foreseen_gained m.items _ _ (foreseen m long sized ln q x c e)
-
-  pub gained_call : gained m.items (given_by m q).items ≡ gained m.items (maps_by m (call_in q) none).items
-  gained_call = told_by_lem (call_in q) refl
+module _ (m : Maps) (long : length m.items ≡ 64) (sized : Sized m.tables) (ln : length m.tables.names ≡ 128) (q : Call) (e : first_that (call_tests m.tables (some q)) ≡ none) where
+  pub gained_call : gained m.items (given_by m q).items ≡ gained m.items (maps_by m (some q) none).items
+  unfolding given_by maps_by
+  gained_call = foreseen_gained m.items _ _ (foreseen m long sized ln q e)
 
   -- where nothing is given
-  pub gained_quiet : gives_at (kind_of q.kind) ≡ false → 0 ≡ gained m.items (maps_by m (call_in q) none).items
+  pub gained_quiet : gives_by q.kind ≡ false → 0 ≡ gained m.items (maps_by m (some q) none).items
   gained_quiet n = sym (gained_none m.items m.items (λ c i l h. h)) ∙ ap (λ (w : Maps). gained m.items w.items) (quiet_given m long q n) ∙ gained_call
-
--- ---- what `Tracker::call` answers
-pub refused_call : (n : ℕ) (m w : Maps) (q : Option Asked) (g : ℕ) → (n ≡ 0 → ⊥) → done (refusal_from n) w g ≡ worked m q → done (some n) m 0 ≡ worked m q
-unfolding refusal_from
-refused_call zero m w q g z e = absurd (z refl)
-refused_call (suc n) m w q g z e = refused m q (suc n) (ap (λ (x : Worked). x.refusal) e ∙ worked_refusal m q) z
-
-pub made_done : (n : ℕ) (m w : Maps) (q : Option Asked) (g : ℕ) → n ≡ 0 → done (refusal_from n) w g ≡ worked m q → done none w g ≡ worked m q
-unfolding refusal_from
-made_done n m w q g z e = rw z at e
 
 -- ---- the rest of a call that can give
 gives_empties : (t : Tables) (p a b c : ℕ) (k : Kind) → gives_by k ≡ true → emptied_by t p a b c k ≡ 0
@@ -455,23 +439,18 @@ gives_empties t p a b c fork h = refl
 gives_empties t p a b c exit h = refl
 gives_empties t p a b c label h = refl
 
-gives_empties_at : (t : Tables) (q : Call) (o : Option Kind) → gives_at o ≡ true → emptied_at t q o ≡ 0
-unfolding gives_at emptied_at
-gives_empties_at t q none h = refl
-gives_empties_at t q (some k) h = gives_empties t q.process q.a q.b q.c k h
-
 -- the maps w after the tables are changed and the set x of those that are not in use is emptied
-pub finished_given : (m w : Maps) → length m.items ≡ 64 → (q : Call) → gives_at (kind_of q.kind) ≡ true → (x : ℕ)
-    → (let t = tables_at m.tables q (kind_of q.kind) in gone_of t x ≡ gone_of t (lost_at m.tables q (kind_of q.kind)) → w ≡ record { tables = t; items = cleared m.items (gone_of t x) } → w ≡ finished m q)
-unfolding finished
+pub finished_given : (m w : Maps) → length m.items ≡ 64 → (q : Call) → gives_by q.kind ≡ true → (x : ℕ)
+    → (let t = tables_for m.tables q in gone_of t x ≡ gone_of t (lost_for m.tables q) → w ≡ record { tables = t; items = cleared m.items (gone_of t x) } → w ≡ finished m q)
+unfolding finished emptied_for
 finished_given m w long q h x e f =
-    let t : Tables = tables_at m.tables q (kind_of q.kind) in
-    let none : m.items ≡ cleared m.items (emptied_at m.tables q (kind_of q.kind)) = cleared_none m.items long ∙ ap (cleared m.items) (sym (gives_empties_at m.tables q (kind_of q.kind) h)) in
+    let t : Tables = tables_for m.tables q in
+    let none : m.items ≡ cleared m.items (emptied_for m.tables q) = cleared_none m.items long ∙ ap (cleared m.items) (sym (gives_empties m.tables q.process q.a q.b q.c q.kind h)) in
     f ∙ ap (λ (l : List ℕ). record { tables = t; items = l }) (ap₂ cleared none e)
 
-pub finished_fork : (m w : Maps) → length m.items ≡ 64 → (q : Call) → q.kind ≡ 17 → (held : ℕ) → held ≡ held_by m.tables q.a
+pub finished_fork : (m w : Maps) → length m.items ≡ 64 → (q : Call) → q.kind ≡ fork → (held : ℕ) → held ≡ held_by m.tables q.a
     → (let f = with_tables m (tables_by m.tables q.process q.a 0 0 fork) in w ≡ with_items f (cleared f.items (gone_of f.tables (held ∩ files))) → w ≡ finished m q)
-unfolding kind_of kinds tables_at tables_by lost_at lost_by gives_at gives_by
+unfolding tables_for tables_by lost_for lost_by gives_by
 finished_fork m w long q k held e f =
     finished_given m w long q (rw k refl) (held ∩ files) (rw (k, e) (gone_held m.tables _ q.a)) (rw k f)
 
@@ -497,15 +476,10 @@ lost_none t p a b c fork h n = absurd (n refl)
 lost_none t p a b c exit h n = no_both h refl
 lost_none t p a b c label h n = refl
 
-lost_none_at : (t : Tables) (q : Call) (o : Option Kind) → gives_at o ≡ true → (o ≡ some fork → ⊥) → lost_at t q o ≡ 0
-unfolding gives_at lost_at
-lost_none_at t q none h n = refl
-lost_none_at t q (some k) h n = lost_none t q.process q.a q.b q.c k h (λ e. n (ap some e))
-
-pub finished_raised : (m w : Maps) → length m.items ≡ 64 → (q : Call) → gives_at (kind_of q.kind) ≡ true → (q.kind ≡ 17 → ⊥)
-    → w ≡ with_tables m (tables_at m.tables q (kind_of q.kind)) → w ≡ finished m q
-unfolding KindsNumbered kind_number
+pub finished_raised : (m w : Maps) → length m.items ≡ 64 → (q : Call) → gives_by q.kind ≡ true → (q.kind ≡ fork → ⊥)
+    → w ≡ with_tables m (tables_for m.tables q) → w ≡ finished m q
+unfolding lost_for
 finished_raised m w long q h n e =
-    let t : Tables = tables_at m.tables q (kind_of q.kind) in
-    finished_given m w long q h 0 (ap (gone_of t) (sym (lost_none_at m.tables q (kind_of q.kind) h (λ z. n ((kinds_numbered q.kind fork).0 z)))))
+    let t : Tables = tables_for m.tables q in
+    finished_given m w long q h 0 (ap (gone_of t) (sym (lost_none m.tables q.process q.a q.b q.c q.kind h n)))
     (e ∙ ap (λ (l : List ℕ). record { tables = t; items = l }) (cleared_none m.items long ∙ ap (cleared m.items) (sym (gone_none t))))

@@ -1,4 +1,3 @@
-pub mod Arms
 pub mod Tests
 pub mod Facts
 pub mod Finding

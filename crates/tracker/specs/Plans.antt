@@ -1,14 +1,12 @@
 -- What a call makes of the items: what it gives, as a plan, what it empties, and what it may end the use of.
-use Rattle.std.specs.Prelude.{ℕ, Bool, true, false, not, ◌&&◌, ◌≡◌, get_or}
-use Rattle.std.proofs.Math.Option.{Option, none, some}
+use Rattle.std.specs.Prelude.{ℕ, Bool, true, false, not, ◌&&◌, ◌≡◌, Option, None, Some, get_or}
 use Rattle.sets.specs.Sets.{has, only, those, ◌∪◌, ◌∩◌}
-use Rattle.flow.specs.Box.{closed, container_of, Tables, feeders_of, descriptor, name}
+use Rattle.flow.specs.Box.{container_of, Tables, feeders_of, descriptor, name}
 use Rattle.flow.specs.Links.{reach, given_from, is_fed, used}
-use Rattle.flow.specs.Calls.{Kind, start, open_name, create, pipe, device, dup, close, read, write, truncate, map_read, map_both, unmap, unlink, rename, link, fork, exit, label, Flow, still, gift, arrival, exchange, copy, clear, block, flow_by}
-use Rattle.flow.specs.Records.{kind_of}
+use Rattle.flow.specs.Calls.{Kind, Call, start, open_name, create, pipe, device, dup, close, read, write, truncate, map_read, map_both, unmap, unlink, rename, link, fork, exit, label, Flow, still, gift, arrival, exchange, copy, clear, block, flow_by}
 use Rattle.store.specs.declared.Plan.{Plan}
-use Rattle.store.specs.Maps.{Maps, files, file_set, files_in}
-use Rattle.tracker.specs.declared.Call.{Call}
+use Rattle.store.specs.declared.numbers.Container.{Container}
+use Rattle.store.specs.Maps.{Maps, files, file_set, container_set, files_in}
 use Rattle.tracker.specs.declared.release.Lost.{Lost}
 
 -- ---- plans
@@ -52,9 +50,8 @@ plan_by m p a b c fork = plan_of m (flow_by m.tables p a b c fork)
 plan_by m p a b c exit = plan_of m (flow_by m.tables p a b c exit)
 plan_by m p a b c label = plan_of m (flow_by m.tables p a b c label)
 
-unfoldable pub plan_at : Maps → Call → Option Kind → Plan
-plan_at m q none = nothing
-plan_at m q (some k) = plan_by m q.process q.a q.b q.c k
+unfoldable pub plan_for : Maps → Call → Plan
+plan_for m q = plan_by m q.process q.a q.b q.c q.kind
 
 -- the kinds that can give something
 unfoldable pub gives_by : Kind → Bool
@@ -78,22 +75,19 @@ gives_by fork = true
 gives_by exit = false
 gives_by label = true
 
-unfoldable pub gives_at : Option Kind → Bool
-gives_at none = false
-gives_at (some k) = gives_by k
-
 -- calls that give once: neither a map both, which gives twice, nor a fork, which gives to a container that it empties
 abbrev pub GivesOnce : Call → Type 0
-GivesOnce q = (gives_at (kind_of q.kind) ≡ true) × (q.kind ≡ 12 → ⊥) × (q.kind ≡ 17 → ⊥)
+GivesOnce q = (gives_by q.kind ≡ true) × (q.kind ≡ map_both → ⊥) × (q.kind ≡ fork → ⊥)
 
 -- ---- what is emptied
 -- the set of c where no link leads into c
 unfoldable pub free_set : Tables → ℕ → ℕ
 free_set t c = elim (is_fed t c) [ true ↦ 0 | false ↦ only c ]
 
--- the same as an entry: c itself, or closed
-unfoldable pub free_at : Tables → ℕ → ℕ
-free_at t c = elim (is_fed t c) [ true ↦ closed | false ↦ c ]
+-- the set of a container, if there is one
+unfoldable pub set_of : Option Container → ℕ
+set_of None = 0
+set_of (Some c) = container_set c.0
 
 -- the containers that a call empties; a fork's child is emptied by its plan, and the process of an exit is among those whose use it ends
 unfoldable pub emptied_by : Tables → ℕ → ℕ → ℕ → ℕ → Kind → ℕ
@@ -117,9 +111,8 @@ emptied_by t p a b c fork = 0
 emptied_by t p a b c exit = 0
 emptied_by t p a b c label = 0
 
-unfoldable pub emptied_at : Tables → Call → Option Kind → ℕ
-emptied_at t q none = 0
-emptied_at t q (some k) = emptied_by t q.process q.a q.b q.c k
+unfoldable pub emptied_for : Tables → Call → ℕ
+emptied_for t q = emptied_by t q.process q.a q.b q.c q.kind
 
 -- ---- uses that may end
 -- the files and pipes that process q leads to or maps
@@ -148,9 +141,8 @@ lost_by t p a b c fork = held_by t a
 lost_by t p a b c exit = held_by t p ∪ only (container_of p)
 lost_by t p a b c label = 0
 
-unfoldable pub lost_at : Tables → Call → Option Kind → ℕ
-lost_at t q none = 0
-lost_at t q (some k) = lost_by t q.process q.a q.b q.c k
+unfoldable pub lost_for : Tables → Call → ℕ
+lost_for t q = lost_by t q.process q.a q.b q.c q.kind
 
 -- the set that a Lost stands for
 abbrev pub lost_set : Lost → ℕ

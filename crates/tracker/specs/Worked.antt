@@ -3,28 +3,30 @@ use Rattle.std.specs.Prelude.{ℕ, ◌<◌, ◌≡◌, true, List, get_or}
 use Rattle.std.proofs.Math.Option.{Option, none, some}
 use Rattle.sets.specs.Sets.{has, ◌∪◌}
 use Rattle.flow.specs.Lists.{first_that}
-use Rattle.flow.specs.Box.{container_count}
-use Rattle.flow.specs.Calls.{Call, change}
+use Rattle.flow.specs.Box.{container_count, Sort, to_read, both_ways}
+use Rattle.flow.specs.Calls.{Kind, Call, map_read, map_both, change}
 use Rattle.flow.specs.Refusals.{call_tests}
 use Rattle.flow.specs.Gained.{gained}
 use Rattle.store.specs.declared.Plan.{Plan}
-use Rattle.flow.specs.Records.{kind_of}
 use Rattle.store.specs.Maps.{Maps, with_items, changed, cleared, items_by}
-use Rattle.tracker.specs.declared.Call.{Call as Bytes}
-use Rattle.tracker.specs.Rows.{tables_at}
-use Rattle.tracker.specs.Plans.{plan_at, emptied_at, lost_at, gone_of}
+use Rattle.tracker.specs.Rows.{tables_for}
+use Rattle.tracker.specs.Plans.{plan_for, emptied_for, lost_for, gone_of}
 
 -- ---- the two parts of a call's change
 -- the maps once its gifts are made
-unfoldable pub given : Maps → Bytes → Maps
-given m q = with_items m (items_by m.items (plan_at m q (kind_of q.kind)))
+unfoldable pub given : Maps → Call → Maps
+given m q = with_items m (items_by m.items (plan_for m q))
 
 -- the maps once the tables are changed, and what the call empties and what it ends the use of is emptied
-unfoldable pub finished : Maps → Bytes → Maps
+unfoldable pub finished : Maps → Call → Maps
 finished m q =
-    let k = kind_of q.kind in
-    let t = tables_at m.tables q k in
-    record { tables = t; items = cleared (cleared m.items (emptied_at m.tables q k)) (gone_of t (lost_at m.tables q k)) }
+    let t = tables_for m.tables q in
+    record { tables = t; items = cleared (cleared m.items (emptied_for m.tables q)) (gone_of t (lost_for m.tables q)) }
+
+-- the kind of call that maps so
+abbrev pub mapping : Sort → Kind
+mapping to_read = map_read
+mapping both_ways = map_both
 
 -- ---- the whole call
 -- with the containers that gained (02, Paper 5)
@@ -48,8 +50,13 @@ worked m q =
     let after = maps_by m q refusal in
     done refusal after (gained m.items after.items)
 
+-- a plan is made, and g is the set of the containers that gained
+pub record Makes (m : Maps) (plan : Plan) (after : Maps) (g : ℕ) : Type 0 where
+  pub made : after ≡ with_items m (items_by m.items plan)
+  pub told : g ≡ gained m.items (items_by m.items plan)
+
 -- what a call gives is made, then the rest of its change: the maps after it, and the containers that gained
-pub record Gives (m : Maps) (q : Bytes) (after : Maps) (g : ℕ) : Type 0 where
+pub record Gives (m : Maps) (q : Call) (after : Maps) (g : ℕ) : Type 0 where
   pub made : after ≡ finished (given m q) q
   pub told : g ≡ gained m.items (given m q).items
 

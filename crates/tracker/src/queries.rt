@@ -11,25 +11,24 @@ ghost use Rattle.tracker.specs.Replies.{reply_of, with_holder, AnswersHolders};
 use store::limits::{CONTAINERS, ITEMS};
 use store::lookups::items;
 use store::numbers::Container;
+use terms::refusal::Refusal;
 
-// The result, or a refusal's number.
-#[derive(Clone, Copy)]
-pub enum Reply {
-    Result(u64),
-    Refused(u8),
-}
+// The result, or why there is none.
+pub type Reply = Result<u64, Refusal>;
 
 // The items of container c.
+#[tactic(auto, unfolding(crate::specs::Replies::reply_of, flow::specs::Queries::items_query, store::specs::Maps::view, flow::specs::Box::items_of))]
 pub fn items_in(words: &[u64; 353], c: u8) -> Reply
     ensures { (d n : List ℕ) (rules : List Rule) → reply_of result ≡ items_query (state (view words.now d n) rules) c }
 {
     if c < CONTAINERS {
-        return Reply::Result(items(words, Container(c)));
+        return Ok(items(words, Container(c)));
     }
-    Reply::Refused(5)
+    Err(Refusal::OutOfRange)
 }
 
 // x, with container c where its items have item i.
+#[tactic(auto, unfolding(crate::specs::Replies::with_holder))]
 fn with_holder(x: u64, held: u64, i: u8, c: u8) -> u64
     ensures { result ≡ with_holder x held (i % 64) (c % 64) }
 {
@@ -40,7 +39,7 @@ fn with_holder(x: u64, held: u64, i: u8, c: u8) -> u64
     }
 }
 
-// The containers that hold item i.
+// The containers that hold item i. By a loop: a fold would carry the same set through a closure.
 fn holder_set(words: &[u64; 353], i: u8) -> u64
     ensures { (d n : List ℕ) (rules : List Rule) → result ≡ those (λ c. holds (state (view words.now d n) rules) c (i % 64)) }
 {
@@ -57,13 +56,8 @@ fn fill(x: u64, out: &mut [u16])
     requires { count x ≤ length out.old }
     ensures { out.new ≡ members x ++ drop (count x) out.old }
 {
-    let mut left = x;
-    let mut n = 0;
-    while left != 0 {
-        let c = sets::lowest(left);
-        out[n] = c as u16;
-        left = sets::without(left, c as u8);
-        n += 1;
+    for (n, c) in sets::each(x).enumerate() {
+        out[n] = u16::from(c);
     }
 }
 
@@ -72,13 +66,13 @@ pub fn holders_in(words: &[u64; 353], i: u8, out: &mut [u16]) -> Reply
     ensures { (d n : List ℕ) (rules : List Rule) → AnswersHolders (state (view words.now d n) rules) i out.old result out.new }
 {
     if ITEMS <= i {
-        return Reply::Refused(5);
+        return Err(Refusal::OutOfRange);
     }
     let x = holder_set(words, i);
     let n = sets::count(x) as u64;
     if (out.len() as u64) < n {
-        return Reply::Refused(13);
+        return Err(Refusal::SliceShort);
     }
     fill(x, out);
-    Reply::Result(n)
+    Ok(n)
 }

@@ -1,27 +1,30 @@
 // What a call empties (document 01, The records), and what it ends the use of, which is emptied in the same call (The box).
-ghost use Rattle.std.specs.Prelude.{ℕ, ◌≡◌, List};
-ghost use Rattle.flow.specs.Records.{kind_of};
+ghost use Rattle.std.specs.Prelude.{◌≡◌};
 ghost use Rattle.sets.specs.Sets.{◌∩◌};
-ghost use Rattle.store.specs.Maps.{view, with_items, cleared, files, file_set, container_set, maps_before};
+ghost use Rattle.store.specs.Maps.{with_items, cleared, files, file_set};
+ghost use Rattle.terms.specs.Calls.{asked};
+ghost use Rattle.tracker.specs.View.{view};
 ghost use Rattle.tracker.specs.Rows.{Passes};
-ghost use Rattle.tracker.specs.Plans.{held_by, lost_set, lost_at, free_at, emptied_at, gone_of};
+ghost use Rattle.tracker.specs.Plans.{held_by, lost_set, lost_for, set_of, emptied_for, gone_of};
 
-use crate::Call;
+use crate::Tracker;
 use store::blocks::block_files;
 use store::cells::{empty_container, empty_set};
 use store::limits::{CLOSED, CONTAINERS, DEVICES, FILES, FIRST_FILE};
 use store::lookups::{at_slot, descriptor, in_use, is_fed, maps, name, unused_of};
 use store::numbers::{Container, Descriptor, Name, Process};
+use terms::call::KnownCall;
+use terms::kind::Kind;
 
 // The files and pipes that process p leads to or maps.
-pub fn held_by(words: &[u64; 353], descriptors: &[u8; 512], p: u8) -> u64
-    ensures { (n : List ℕ) → result ≡ held_by (view words.now descriptors.now n).tables p }
+pub fn held_by(t: &Tracker, p: u8) -> u64
+    ensures { result ≡ held_by (view t.now).tables p }
 {
-    block_files(descriptors, Process(p)) | (maps(words, Process(p)) & FILES)
+    block_files(&t.descriptors, Process(p)) | (maps(&t.words, Process(p)) & FILES)
 }
 
-// What a call may end the use of: what an entry leads to, and unmap's container, where that is a file or pipe (closed where there is none),
-// and a set of containers. Unmap's is apart, so that the compiler need not keep field a twice.
+// What a call may end the use of: what an entry leads to, and unmap's container, where that is a file or pipe, and a set of containers. Entries
+// are as they are stored, so closed where there is none. Unmap's is apart, so that the compiler need not keep field a twice.
 #[derive(Clone, Copy)]
 pub struct Lost {
     pub entry: u8,
@@ -29,123 +32,121 @@ pub struct Lost {
     pub held: u64,
 }
 
-fn losing(entry: u8, unmapped: u8, held: u64) -> Lost
-    ensures { result ≡ record { entry = entry; unmapped = unmapped; held = held } }
-{
-    Lost {
-        entry,
-        unmapped,
-        held,
-    }
+impl Lost {
+    // Nothing.
+    const NONE: Lost = Lost {
+        entry: CLOSED,
+        unmapped: CLOSED,
+        held: 0,
+    };
 }
 
 // What a call that is not refused may end the use of.
-pub fn lost_by(words: &[u64; 353], descriptors: &[u8; 512], names: &[u8; 128], q: Call) -> Lost
-    requires { Passes words.now descriptors.now names.now q }
-    ensures { lost_set result ≡ lost_at (maps_before words descriptors names).tables q (kind_of q.kind) }
+pub fn lost_by(t: &Tracker, q: KnownCall) -> Lost
+    requires { Passes (view t.now) (asked q) }
+    ensures { lost_set result ≡ lost_for (view t.now).tables (asked q) }
 {
-    let kind = q.kind;
-    let p = q.process;
-    let a = q.a;
-    let b = q.b;
-    match kind {
-        7 => losing(
-            descriptor(descriptors, Process(p), Descriptor(a)),
-            CLOSED,
-            0,
-        ),
-        13 => losing(CLOSED, a, 0),
-        14 => losing(name(names, Name(a)), CLOSED, 0),
-        15 => losing(name(names, Name(b)), CLOSED, 0),
-        17 => losing(CLOSED, CLOSED, held_by(words, descriptors, a)),
-        18 => losing(
-            CLOSED,
-            CLOSED,
-            sets::with(held_by(words, descriptors, p), DEVICES + p),
-        ),
-        _ => losing(CLOSED, CLOSED, 0),
+    let p = Process(q.process);
+    match q.kind {
+        Kind::Close => Lost {
+            entry: descriptor(&t.descriptors, p, Descriptor(q.a)),
+            ..Lost::NONE
+        },
+        Kind::Unmap => Lost {
+            unmapped: q.a,
+            ..Lost::NONE
+        },
+        Kind::Unlink => Lost {
+            entry: name(&t.names, Name(q.a)),
+            ..Lost::NONE
+        },
+        Kind::Rename => Lost {
+            entry: name(&t.names, Name(q.b)),
+            ..Lost::NONE
+        },
+        Kind::Fork => Lost {
+            held: held_by(t, q.a),
+            ..Lost::NONE
+        },
+        Kind::Exit => Lost {
+            held: sets::with(held_by(t, q.process), DEVICES + q.process),
+            ..Lost::NONE
+        },
+        _ => Lost::NONE,
     }
 }
 
-// The container c, where no link leads into it; else closed.
-fn free(words: &[u64; 353], c: u8) -> u8
-    ensures { (d n : List ℕ) → result ≡ free_at (view words.now d n).tables c }
+// The container that a call that is not refused empties, whatever its use, if there is one. A fork's child is emptied by its plan, and an exit's
+// process is among the lost.
+pub fn emptied_by(t: &Tracker, q: KnownCall) -> Option<Container>
+    requires { Passes (view t.now) (asked q) }
+    ensures { set_of result ≡ emptied_for (view t.now).tables (asked q) }
 {
-    if is_fed(words, Container(c)) {
-        return CLOSED;
-    }
-    c
-}
-
-// The container that a call that is not refused empties, whatever its use, or closed where there is none. A fork's child is emptied by its
-// plan, and an exit's process is among the lost.
-pub fn emptied_by(words: &[u64; 353], descriptors: &[u8; 512], names: &[u8; 128], q: Call) -> u8
-    requires { Passes words.now descriptors.now names.now q }
-    ensures { container_set result ≡ emptied_at (maps_before words descriptors names).tables q (kind_of q.kind) }
-{
-    let kind = q.kind;
-    let p = q.process;
-    let a = q.a;
-    let c = q.c;
-    match kind {
-        1 => DEVICES + p,
-        3 => c,
-        4 => c,
-        10 => free(words, at_slot(descriptors, Process(p), Descriptor(a))),
-        _ => CLOSED,
+    match q.kind {
+        Kind::Start => Some(Container(DEVICES + q.process)),
+        Kind::Create | Kind::Pipe => Some(Container(q.c)),
+        Kind::Truncate => {
+            let c = Container(at_slot(&t.descriptors, Process(q.process), Descriptor(q.a)));
+            if is_fed(&t.words, c) { None } else { Some(c) }
+        }
+        _ => None,
     }
 }
 
-// What an entry leads to, where that is a file or pipe that is not in use; else closed.
-fn unused(words: &[u64; 353], descriptors: &[u8; 512], names: &[u8; 128], e: u8) -> u8
-    ensures { container_set result ≡ gone_of (maps_before words descriptors names).tables (file_set e) }
+// What an entry leads to, where that is a file or pipe that is not in use. The range by comparisons joined by &, as in `rows::fits`.
+fn unused(t: &Tracker, e: u8) -> Option<Container>
+    ensures { set_of result ≡ gone_of (view t.now).tables (file_set e) }
 {
     if !((FIRST_FILE <= e) & (e < CONTAINERS)) {
-        return CLOSED;
+        return None;
     }
-    if in_use(words, descriptors, names, Container(e)) {
-        return CLOSED;
+    if in_use(&t.words, &t.descriptors, &t.names, Container(e)) {
+        return None;
     }
-    e
+    Some(Container(e))
+}
+
+// Empties a container, if there is one.
+pub fn empty(t: &mut Tracker, emptied: Option<Container>)
+    ensures { let m = view t.old in view t.new ≡ with_items m (cleared m.items (set_of emptied)) }
+{
+    if let Some(c) = emptied {
+        empty_container(&mut t.words, c.0);
+    }
 }
 
 // Empties the container of number e, where that is a file or pipe that is not in use.
-fn release_one(words: &mut [u64; 353], descriptors: &[u8; 512], names: &[u8; 128], e: u8)
-    ensures { let m = view words.old descriptors.now names.now in view words.new descriptors.now names.now ≡ with_items m (cleared m.items (gone_of m.tables (file_set e))) }
+fn release_one(t: &mut Tracker, e: u8)
+    ensures { let m = view t.old in view t.new ≡ with_items m (cleared m.items (gone_of m.tables (file_set e))) }
 {
-    let c = unused(words, descriptors, names, e);
-    empty_container(words, c);
+    let gone = unused(t, e);
+    empty(t, gone);
 }
 
 // Empties each container of the set held that is not in use.
-fn release_held(words: &mut [u64; 353], descriptors: &[u8; 512], names: &[u8; 128], held: u64)
-    ensures { let m = view words.old descriptors.now names.now in view words.new descriptors.now names.now ≡ with_items m (cleared m.items (gone_of m.tables held)) }
+fn release_held(t: &mut Tracker, held: u64)
+    ensures { let m = view t.old in view t.new ≡ with_items m (cleared m.items (gone_of m.tables held)) }
 {
-    sets::lengths(words, names);
     if held != 0 {
-        let gone = unused_of(words, descriptors, names, held);
-        empty_set(words, gone);
+        let gone = unused_of(&t.words, &t.descriptors, &t.names, held);
+        empty_set(&mut t.words, gone);
     }
 }
 
 // The same of its files and pipes, one after the other: for a fork, whose child holds none in a tracker that records made.
-pub fn release_each(words: &mut [u64; 353], descriptors: &[u8; 512], names: &[u8; 128], held: u64)
-    ensures { let m = view words.old descriptors.now names.now in view words.new descriptors.now names.now ≡ with_items m (cleared m.items (gone_of m.tables (held ∩ files))) }
+pub fn release_each(t: &mut Tracker, held: u64)
+    ensures { let m = view t.old in view t.new ≡ with_items m (cleared m.items (gone_of m.tables (held ∩ files))) }
 {
-    sets::lengths(words, names);
-    let mut left = held;
-    while left != 0 {
-        let v = sets::lowest(left) as u8;
-        release_one(words, descriptors, names, v);
-        left = sets::rest(left);
+    for v in sets::each(held) {
+        release_one(t, v);
     }
 }
 
 // Empties each container that is among the lost and not in use.
-pub fn release(words: &mut [u64; 353], descriptors: &[u8; 512], names: &[u8; 128], lost: Lost)
-    ensures { let m = view words.old descriptors.now names.now in view words.new descriptors.now names.now ≡ with_items m (cleared m.items (gone_of m.tables (lost_set lost))) }
+pub fn release(t: &mut Tracker, lost: Lost)
+    ensures { let m = view t.old in view t.new ≡ with_items m (cleared m.items (gone_of m.tables (lost_set lost))) }
 {
-    release_one(words, descriptors, names, lost.entry);
-    release_one(words, descriptors, names, lost.unmapped);
-    release_held(words, descriptors, names, lost.held);
+    release_one(t, lost.entry);
+    release_one(t, lost.unmapped);
+    release_held(t, lost.held);
 }

@@ -2,24 +2,31 @@
 ghost use Rattle.std.specs.Prelude.{ℕ, ◌<◌, ◌%◌, ◌≡◌, List, get_or, set};
 ghost use Rattle.sets.specs.Sets.{only, ◌∪◌};
 ghost use Rattle.flow.specs.Box.{closed, slot};
-ghost use Rattle.flow.specs.Calls.{fork as forking, exit as exiting, with_live, tables_by};
-ghost use Rattle.flow.specs.Records.{kind_of};
-ghost use Rattle.store.specs.Maps.{view, with_tables};
-ghost use Rattle.tracker.specs.Rows.{tables_at, Passes};
+ghost use Rattle.flow.specs.Calls.{fork as forking, exit as exiting, map_both, with_live, tables_by};
+ghost use Rattle.store.specs.Maps.{view as maps_of, with_tables};
+ghost use Rattle.store.specs.Sorts.{sort_in};
+ghost use Rattle.terms.specs.Calls.{asked};
+ghost use Rattle.terms.specs.Kinds.{kind_in};
+ghost use Rattle.tracker.specs.View.{view};
+ghost use Rattle.tracker.specs.Rows.{tables_for, Passes};
 ghost use Rattle.tracker.specs.Plans.{GivesOnce};
+ghost use Rattle.tracker.specs.Worked.{mapping};
 
-use crate::Call;
+use crate::Tracker;
 use store::blocks::{close_block, copy_block};
 use store::cells::{set_descriptor, set_live, set_name};
 use store::counts::{clear_rows, copy_rows, lower, raise};
-use store::limits::{BOTH_WAYS, CLOSED, TO_READ};
+use store::limits::CLOSED;
 use store::lookups::{descriptor, live, name};
 use store::numbers::{Container, Descriptor, Name, Process, Sort};
+use terms::call::KnownCall;
+use terms::kind::Kind;
 
 // Makes process p live.
+#[tactic(auto, using(crate::proofs::Facts::below16), unfolding(store::specs::Maps::view))]
 fn start(words: &mut [u64; 353], p: u8)
     requires { p < 16 }
-    ensures { (d n : List ℕ) → let m = view words.old d n in view words.new d n ≡ with_tables m (with_live m.tables (m.tables.live ∪ only p)) }
+    ensures { (d n : List ℕ) → let m = maps_of words.old d n in maps_of words.new d n ≡ with_tables m (with_live m.tables (m.tables.live ∪ only p)) }
 {
     let x = live(words);
     set_live(words, sets::with(x, p));
@@ -33,7 +40,7 @@ fn dup(descriptors: &mut [u8; 512], p: u8, a: u8, b: u8)
     set_descriptor(descriptors, Process(p), Descriptor(b), to);
 }
 
-// Name b leads where a does.
+// Name b leads where a does. As dup, but names are a table of another type, and of no process.
 fn link(names: &mut [u8; 128], a: u8, b: u8)
     ensures { names.new ≡ set names.old (b % 128) (get_or names.old (a % 128) closed) }
 {
@@ -51,94 +58,90 @@ fn rename(names: &mut [u8; 128], a: u8, b: u8)
 }
 
 // The child is live, with the mappings and descriptors of process p.
-pub fn fork(words: &mut [u64; 353], descriptors: &mut [u8; 512], p: u8, child: u8)
+pub fn fork(t: &mut Tracker, p: u8, child: u8)
     requires { (p < 16) × (child < 16) }
-    ensures { (n : List ℕ) → let m = view words.old descriptors.old n in view words.new descriptors.new n ≡ with_tables m (tables_by m.tables p child 0 0 forking) }
+    ensures { let m = view t.old in view t.new ≡ with_tables m (tables_by m.tables p child 0 0 forking) }
 {
-    let z = live(words);
-    copy_rows(words, Process(p), Process(child));
-    set_live(words, sets::with(z, child));
-    copy_block(descriptors, Process(p), Process(child));
+    let z = live(&t.words);
+    copy_rows(&mut t.words, Process(p), Process(child));
+    set_live(&mut t.words, sets::with(z, child));
+    copy_block(&mut t.descriptors, Process(p), Process(child));
 }
 
 // Process p is dead, its descriptors are closed and its mappings ended.
-fn exit(words: &mut [u64; 353], descriptors: &mut [u8; 512], p: u8)
+fn exit(t: &mut Tracker, p: u8)
     requires { p < 16 }
-    ensures { (n : List ℕ) → let m = view words.old descriptors.old n in view words.new descriptors.new n ≡ with_tables m (tables_by m.tables p 0 0 0 exiting) }
+    ensures { let m = view t.old in view t.new ≡ with_tables m (tables_by m.tables p 0 0 0 exiting) }
 {
-    let z = live(words);
-    clear_rows(words, Process(p));
-    set_live(words, sets::without(z, p));
-    close_block(descriptors, Process(p));
+    let z = live(&t.words);
+    clear_rows(&mut t.words, Process(p));
+    set_live(&mut t.words, sets::without(z, p));
+    close_block(&mut t.descriptors, Process(p));
 }
 
-// Makes the tables those after a call that is not refused.
-pub fn change_tables(
-    words: &mut [u64; 353],
-    descriptors: &mut [u8; 512],
-    names: &mut [u8; 128],
-    q: Call,
-)
-    requires { Passes words.old descriptors.old names.old q }
-    ensures { let m = view words.old descriptors.old names.old in view words.new descriptors.new names.new ≡ with_tables m (tables_at m.tables q (kind_of q.kind)) }
+// Makes the tables those after a map read or a map both that is not refused: one mapping of the sort more.
+fn map(t: &mut Tracker, sort: Sort, q: KnownCall)
+    requires { Passes (view t.old) (asked q) × (kind_in q.kind ≡ mapping (sort_in sort)) }
+    ensures { let m = view t.old in view t.new ≡ with_tables m (tables_for m.tables (asked q)) }
 {
-    let kind = q.kind;
-    let p = q.process;
+    let to = descriptor(&t.descriptors, Process(q.process), Descriptor(q.a));
+    raise(&mut t.words, sort, Process(q.process), Container(to));
+}
+
+// Makes the tables those after a call that is not refused. One match over the kinds: a function for each table took 18 to 41 instructions more a
+// call.
+pub fn change_tables(t: &mut Tracker, q: KnownCall)
+    requires { Passes (view t.old) (asked q) }
+    ensures { let m = view t.old in view t.new ≡ with_tables m (tables_for m.tables (asked q)) }
+{
+    let p = Process(q.process);
     let a = q.a;
     let b = q.b;
     let c = q.c;
-    match kind {
-        1 => start(words, p),
-        2 => set_descriptor(descriptors, Process(p), Descriptor(b), name(names, Name(a))),
-        3 => {
-            set_descriptor(descriptors, Process(p), Descriptor(b), c);
-            set_name(names, Name(a), c);
+    match q.kind {
+        Kind::Start => start(&mut t.words, q.process),
+        Kind::OpenName => {
+            let to = name(&t.names, Name(a));
+            set_descriptor(&mut t.descriptors, p, Descriptor(b), to);
         }
-        4 => {
-            set_descriptor(descriptors, Process(p), Descriptor(a), c);
-            set_descriptor(descriptors, Process(p), Descriptor(b), c);
+        Kind::Create => {
+            set_descriptor(&mut t.descriptors, p, Descriptor(b), c);
+            set_name(&mut t.names, Name(a), c);
         }
-        5 => set_descriptor(descriptors, Process(p), Descriptor(a), b),
-        6 => dup(descriptors, p, a, b),
-        7 => set_descriptor(descriptors, Process(p), Descriptor(a), CLOSED),
-        11 => {
-            let to = descriptor(descriptors, Process(p), Descriptor(a));
-            raise(words, Sort(TO_READ), Process(p), Container(to));
+        Kind::Pipe => {
+            set_descriptor(&mut t.descriptors, p, Descriptor(a), c);
+            set_descriptor(&mut t.descriptors, p, Descriptor(b), c);
         }
-        12 => {
-            let to = descriptor(descriptors, Process(p), Descriptor(a));
-            raise(words, Sort(BOTH_WAYS), Process(p), Container(to));
-        }
-        13 => lower(words, Sort(b), Process(p), Container(a)),
-        14 => set_name(names, Name(a), CLOSED),
-        15 => rename(names, a, b),
-        16 => link(names, a, b),
-        17 => fork(words, descriptors, p, a),
-        18 => exit(words, descriptors, p),
-        _ => {}
+        Kind::Device => set_descriptor(&mut t.descriptors, p, Descriptor(a), b),
+        Kind::Dup => dup(&mut t.descriptors, q.process, a, b),
+        Kind::Close => set_descriptor(&mut t.descriptors, p, Descriptor(a), CLOSED),
+        Kind::MapRead => map(t, Sort::ToRead, q),
+        Kind::MapBoth => map(t, Sort::BothWays, q),
+        Kind::Unmap => lower(&mut t.words, Sort::from(b), p, Container(a)),
+        Kind::Unlink => set_name(&mut t.names, Name(a), CLOSED),
+        Kind::Rename => rename(&mut t.names, a, b),
+        Kind::Link => link(&mut t.names, a, b),
+        Kind::Fork => fork(t, q.process, a),
+        Kind::Exit => exit(t, q.process),
+        Kind::Read | Kind::Write | Kind::Truncate | Kind::Label => {}
     }
 }
 
 // The same of the calls that give once: a mapping more for reading, or nothing.
-pub fn raise_read(words: &mut [u64; 353], descriptors: &[u8; 512], names: &[u8; 128], q: Call)
-    requires { Passes words.old descriptors.now names.now q × GivesOnce q }
-    ensures { let m = view words.old descriptors.now names.now in view words.new descriptors.now names.now ≡ with_tables m (tables_at m.tables q (kind_of q.kind)) }
+#[tactic(auto, unfolding(crate::specs::Rows::tables_for, flow::specs::Calls::tables_by, crate::specs::Plans::gives_by))]
+pub fn raise_read(t: &mut Tracker, q: KnownCall)
+    requires { Passes (view t.old) (asked q) × GivesOnce (asked q) }
+    ensures { let m = view t.old in view t.new ≡ with_tables m (tables_for m.tables (asked q)) }
 {
-    let kind = q.kind;
-    match kind {
-        11 => {
-            let to = descriptor(descriptors, Process(q.process), Descriptor(q.a));
-            raise(words, Sort(TO_READ), Process(q.process), Container(to));
-        }
-        _ => {}
+    if q.kind == Kind::MapRead {
+        map(t, Sort::ToRead, q);
     }
 }
 
 // The same of a map both: a mapping more both ways.
-pub fn raise_both(words: &mut [u64; 353], descriptors: &[u8; 512], names: &[u8; 128], q: Call)
-    requires { Passes words.old descriptors.now names.now q × (q.kind ≡ 12) }
-    ensures { let m = view words.old descriptors.now names.now in view words.new descriptors.now names.now ≡ with_tables m (tables_at m.tables q (kind_of q.kind)) }
+pub fn raise_both(t: &mut Tracker, q: KnownCall)
+    requires { Passes (view t.old) (asked q) × (kind_in q.kind ≡ map_both) }
+    ensures { let m = view t.old in view t.new ≡ with_tables m (tables_for m.tables (asked q)) }
 {
-    let to = descriptor(descriptors, Process(q.process), Descriptor(q.a));
-    raise(words, Sort(BOTH_WAYS), Process(q.process), Container(to));
+    map(t, Sort::BothWays, q);
 }

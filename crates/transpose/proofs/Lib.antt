@@ -1,3 +1,4 @@
 pub mod Words
 pub mod Filling
 pub mod Composition
+pub mod Halves

@@ -21,3 +21,7 @@ word d e lo hi =
 
 unfoldable pub shuffled : ℕ → List ℕ → List ℕ
 shuffled d rows = table 64 (λ j. word d (even j) (get_or rows (j / 2) 0) (get_or rows (j / 2 + 32) 0))
+
+-- the columns of m from the row x, the others from the row y
+unfoldable pub blended : ℕ → ℕ → ℕ → ℕ
+blended m x y = those (λ b. elim (has m b) [ true ↦ has x b | false ↦ has y b ])

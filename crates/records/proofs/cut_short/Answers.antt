@@ -4,4 +4,4 @@ use Rattle.records.proofs.cut_short.Goals as goal
 
 pub returns : goal.returns
 unfolding cut_short record_length
-returns c = rw c.stated_length.ensures
+returns c = cc

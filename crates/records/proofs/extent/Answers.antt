@@ -1,5 +1,6 @@
 -- `extent` is the length of the record at the front.
 use mathlib.Core.Path.{sym, ◌∙◌}
+use lib.ListN.{length}
 use Rattle.flow.specs.Records.{cut_short, record_length}
 use Rattle.flow.proofs.Bools.{chosen_l, chosen_r}
 use Rattle.records.specs.Reading.{extent_of}
@@ -11,4 +12,7 @@ returns-then-cut_short c = sym (chosen_l (cut_short _) _ _ (sym c.cut_short.ensu
 
 pub returns-else-cut_short : goal.returns-else-cut_short
 unfolding extent_of record_length
-returns-else-cut_short c = rw c.stated_length.ensures (sym (chosen_r (cut_short _) _ _ (sym c.cut_short.ensures ∙ c.if-cut_short.false)))
+returns-else-cut_short c =
+    let b = c.args.bytes.now in
+    let e = chosen_r (cut_short b) (length b) (record_length b) (sym c.cut_short.ensures ∙ c.if-cut_short.false) in
+    cc

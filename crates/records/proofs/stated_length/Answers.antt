@@ -1,7 +1,8 @@
 -- `stated_length` is the length in the header.
+use native.Mathlib.Omega.{arith}
 use Rattle.flow.specs.Records.{stated_length}
 use Rattle.records.proofs.stated_length.Goals as goal
 
 pub returns : goal.returns
 unfolding stated_length
-returns c = rw (c.at.ensures, c.at-2.ensures)
+returns c = omega arith

@@ -6,13 +6,13 @@ use Rattle.sets.specs.Sets.{◌∪◌, union_of}
 use Rattle.sets.proofs.Unions.{union_of_more}
 use Rattle.sets.proofs.union_of.Goals as goal
 
-pub loop-i-init : goal.loop-i-init
+pub loop-row-init : goal.loop-row-init
 unfolding union_of
-loop-i-init c = (search rules, refl)
+loop-row-init c = refl
 
-pub loop-i-preserved : goal.loop-i-preserved
+pub loop-row-preserved : goal.loop-row-preserved
 unfolding ◌∪◌
-loop-i-preserved c = (search rules, rw c.loop-i.invariant.1 (sym (union_of_more _ _ c.loop-i-test.true)))
+loop-row-preserved c = rw c.loop-row.invariant (sym (union_of_more _ _ c.loop-row-test.true))
 
 pub returns : goal.returns
-returns c = c.loop-i.invariant.1 ∙ ap union_of (take_all _ _ c.loop-i-test.false)
+returns c = c.loop-row.invariant ∙ ap union_of (take_all _ _ c.loop-row-test.false)

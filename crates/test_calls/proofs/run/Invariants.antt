@@ -1,8 +1,8 @@
--- `run` answers the tracker after the calls: after i turns it is the one after i calls.
+-- `run` answers the tracker after the calls: after some turns it is the one after as many calls.
 use Rattle.std.proofs.Common.{◌≡◌}
 use Rattle.tracker.specs.View.{view}
 use Rattle.test_calls.specs.Calls.{after_calls}
 use Rattle.test_calls.proofs.run.Given as goal
 
-abbrev pub invariant-loop-i : goal.invariant-loop-i
-invariant-loop-i g l = view l.t ≡ after_calls l.i l.calls
+abbrev pub invariant-loop-kind : goal.invariant-loop-kind
+invariant-loop-kind g l = view l.t ≡ after_calls l.kind-index l.calls

@@ -1,25 +1,22 @@
 // 6: the calling process is not live.
 ghost use Rattle.std.specs.Prelude.{◌≡◌};
-ghost use Rattle.flow.specs.Records.{kind_of};
-ghost use Rattle.store.specs.Maps.{maps_before};
-ghost use Rattle.tracker.specs.Rows.{dead_at};
+ghost use Rattle.flow.specs.Refusals.{dead};
+ghost use Rattle.terms.specs.Calls.{asked};
+ghost use Rattle.tracker.specs.View.{view};
 
-use crate::Call;
+use crate::Tracker;
 use store::lookups::is_live;
 use store::numbers::Process;
+use terms::call::KnownCall;
+use terms::kind::Kind;
 
-pub fn holds(
-    words: &[u64; 353],
-    descriptors: &[u8; 512],
-    names: &[u8; 128],
-    kind: u8,
-    q: Call,
-) -> bool
-    ensures { result ≡ dead_at (maps_before words descriptors names).tables q (kind_of kind) }
+#[tactic(auto, unfolding(flow::specs::Refusals::dead, flow::specs::Calls::is_kind, flow::specs::Calls::kind_number, flow::specs::Box::is_live, store::specs::Maps::view))]
+#[inline(always)]
+pub fn holds(t: &Tracker, q: KnownCall) -> bool
+    ensures { result ≡ dead (view t.now).tables (asked q) }
 {
-    let p = q.process;
-    match kind {
-        1 | 19 => false,
-        _ => !is_live(words, Process(p)),
+    match q.kind {
+        Kind::Start | Kind::Label => false,
+        _ => !is_live(&t.words, Process(q.process)),
     }
 }

@@ -1,39 +1,26 @@
 // 17: the count that would rise is at 255 (document 02, Paper 4).
 ghost use Rattle.std.specs.Prelude.{◌≡◌};
-ghost use Rattle.flow.specs.Records.{kind_of};
-ghost use Rattle.store.specs.Maps.{maps_before};
-ghost use Rattle.tracker.specs.Rows.{full_at};
+ghost use Rattle.flow.specs.Refusals.{full};
+ghost use Rattle.terms.specs.Calls.{asked};
+ghost use Rattle.tracker.specs.View.{view};
 
-use crate::Call;
+use crate::Tracker;
 use store::counts::is_full;
-use store::limits::{BOTH_WAYS, TO_READ};
 use store::lookups::descriptor;
 use store::numbers::{Container, Descriptor, Process, Sort};
+use terms::call::KnownCall;
+use terms::kind::Kind;
 
-pub fn holds(
-    words: &[u64; 353],
-    descriptors: &[u8; 512],
-    names: &[u8; 128],
-    kind: u8,
-    q: Call,
-) -> bool
-    ensures { result ≡ full_at (maps_before words descriptors names).tables q (kind_of kind) }
+#[tactic(auto, unfolding(flow::specs::Refusals::full, flow::specs::Calls::is_kind, flow::specs::Calls::kind_number, flow::specs::Box::descriptor, store::specs::Maps::view))]
+#[inline(always)]
+pub fn holds(t: &Tracker, q: KnownCall) -> bool
+    ensures { result ≡ full (view t.now).tables (asked q) }
 {
-    let p = q.process;
-    let a = q.a;
-    match kind {
-        11 => is_full(
-            words,
-            Sort(TO_READ),
-            Process(p),
-            Container(descriptor(descriptors, Process(p), Descriptor(a))),
-        ),
-        12 => is_full(
-            words,
-            Sort(BOTH_WAYS),
-            Process(p),
-            Container(descriptor(descriptors, Process(p), Descriptor(a))),
-        ),
-        _ => false,
-    }
+    let sort = match q.kind {
+        Kind::MapRead => Sort::ToRead,
+        Kind::MapBoth => Sort::BothWays,
+        _ => return false,
+    };
+    let to = descriptor(&t.descriptors, Process(q.process), Descriptor(q.a));
+    is_full(&t.words, sort, Process(q.process), Container(to))
 }

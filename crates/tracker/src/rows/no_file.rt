@@ -1,27 +1,21 @@
 // 10: a device cannot be truncated.
 ghost use Rattle.std.specs.Prelude.{◌≡◌};
-ghost use Rattle.flow.specs.Records.{kind_of};
-ghost use Rattle.store.specs.Maps.{maps_before};
-ghost use Rattle.tracker.specs.Rows.{no_file_at};
+ghost use Rattle.flow.specs.Refusals.{no_file};
+ghost use Rattle.terms.specs.Calls.{asked};
+ghost use Rattle.tracker.specs.View.{view};
 
-use crate::Call;
+use crate::Tracker;
 use store::limits::DEVICES;
 use store::lookups::descriptor;
 use store::numbers::{Descriptor, Process};
+use terms::call::KnownCall;
+use terms::kind::Kind;
 
-pub fn holds(
-    words: &[u64; 353],
-    descriptors: &[u8; 512],
-    names: &[u8; 128],
-    kind: u8,
-    q: Call,
-) -> bool
-    ensures { result ≡ no_file_at (maps_before words descriptors names).tables q (kind_of kind) }
+#[tactic(auto, unfolding(flow::specs::Refusals::no_file, flow::specs::Calls::is_kind, flow::specs::Calls::kind_number, flow::specs::Box::is_device, flow::specs::Box::descriptor, store::specs::Maps::view))]
+#[inline(always)]
+pub fn holds(t: &Tracker, q: KnownCall) -> bool
+    ensures { result ≡ no_file (view t.now).tables (asked q) }
 {
-    let p = q.process;
-    let a = q.a;
-    match kind {
-        10 => descriptor(descriptors, Process(p), Descriptor(a)) < DEVICES,
-        _ => false,
-    }
+    q.kind == Kind::Truncate
+        && descriptor(&t.descriptors, Process(q.process), Descriptor(q.a)) < DEVICES
 }

@@ -1,17 +1,15 @@
 // 9: the two descriptors are one.
 ghost use Rattle.std.specs.Prelude.{◌≡◌};
-ghost use Rattle.flow.specs.Records.{kind_of};
-ghost use Rattle.tracker.specs.Rows.{same_at};
+ghost use Rattle.flow.specs.Refusals.{same_descriptors};
+ghost use Rattle.terms.specs.Calls.{asked};
 
-use crate::Call;
+use terms::call::KnownCall;
+use terms::kind::Kind;
 
-pub fn holds(kind: u8, q: Call) -> bool
-    ensures { result ≡ same_at q (kind_of kind) }
+#[tactic(auto, unfolding(flow::specs::Refusals::same_descriptors, flow::specs::Calls::is_kind, flow::specs::Calls::kind_number))]
+#[inline(always)]
+pub fn holds(q: KnownCall) -> bool
+    ensures { result ≡ same_descriptors (asked q) }
 {
-    let a = q.a;
-    let b = q.b;
-    match kind {
-        4 => a == b,
-        _ => false,
-    }
+    q.kind == Kind::Pipe && q.a == q.b
 }

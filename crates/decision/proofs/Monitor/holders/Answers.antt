@@ -4,4 +4,4 @@ use Rattle.decision.proofs.Monitor.holders.Goals as goal
 
 pub returns : goal.returns
 unfolding view
-returns c = c.holders_in.ensures _ _ _
+returns c = c.holders.ensures _

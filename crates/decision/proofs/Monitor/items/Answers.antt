@@ -4,4 +4,4 @@ use Rattle.decision.proofs.Monitor.items.Goals as goal
 
 pub returns : goal.returns
 unfolding view
-returns c = c.items_in.ensures _ _ _
+returns c = c.items.ensures _

@@ -1,36 +1,19 @@
 -- `answer_in` goes by what was read.
-use mathlib.Core.Path.{refl, sym, ap, ◌∙◌}
+use mathlib.Core.Path.{refl}
 use Rattle.flow.specs.Lists.{first_that}
-use Rattle.flow.specs.Records.{condition_of}
 use Rattle.flow.specs.Refusals.{tests_of}
-use Rattle.records.specs.declared.Record.TheVariants.{Unreadable, Call, Forbid, Separate, Confine}
 use Rattle.records.specs.Reading.{reading_of}
 use Rattle.decision.proofs.AnswerLaws.{refused_as, by_reading}
 use Rattle.decision.proofs.inplace.answer_in.Goals as goal
 
-pub returns-in-Call : goal.returns-in-Call
-unfolding reading_of condition_of
-returns-in-Call c =
-    by_reading _ _ (Call _ _ _ _ _) _ (ap reading_of (sym c.in-Call.is) ∙ c.read-record.ensures) (rw c.call-q.ensures at c.call_in.ensures)
+pub returns-in-Ok-Call : goal.returns-in-Ok-Call
+unfolding reading_of
+returns-in-Ok-Call c = by_reading _ _ _ _ (rw c.in-Ok-Call.field-0-is at c.in-Ok-Call.ensures) c.call_in.ensures.answers
 
-pub returns-in-Forbid : goal.returns-in-Forbid
-unfolding reading_of condition_of
-returns-in-Forbid c =
-    let a = c.args in
-    by_reading _ _ (Forbid _ _ _ _) _ (ap reading_of (sym c.in-Forbid.is) ∙ c.read-record.ensures) (rw c.rule-r.ensures at (c.load_in.ensures a.descriptors.now a.names.now))
+pub returns-in-Ok-Rule : goal.returns-in-Ok-Rule
+unfolding reading_of
+returns-in-Ok-Rule c = by_reading _ _ _ _ (rw c.in-Ok-Rule.field-0-is at c.in-Ok-Rule.ensures) c.load_in.ensures
 
-pub returns-in-Separate : goal.returns-in-Separate
-unfolding reading_of condition_of
-returns-in-Separate c =
-    let a = c.args in
-    by_reading _ _ (Separate _ _ _ _) _ (ap reading_of (sym c.in-Separate.is) ∙ c.read-record.ensures) (rw c.rule-r-in-Separate.ensures at (c.load_in-in-Separate.ensures a.descriptors.now a.names.now))
-
-pub returns-in-Confine : goal.returns-in-Confine
-unfolding reading_of condition_of
-returns-in-Confine c =
-    let a = c.args in
-    by_reading _ _ (Confine _ _ _ _) _ (ap reading_of (sym c.in-Confine.is) ∙ c.read-record.ensures) (rw c.rule-r-in-Confine.ensures at (c.load_in-in-Confine.ensures a.descriptors.now a.names.now))
-
-pub returns-in-Unreadable : goal.returns-in-Unreadable
+pub returns-in-Err : goal.returns-in-Err
 unfolding reading_of tests_of first_that
-returns-in-Unreadable c = by_reading _ _ (Unreadable _) _ (ap reading_of (sym c.in-Unreadable.is) ∙ c.read-record.ensures) (refused_as _ _ _ refl)
+returns-in-Err c = by_reading _ _ _ _ c.in-Err.ensures (refused_as _ _ _ refl)

@@ -1,25 +1,17 @@
 -- `held` gathers the items of the members of the set, the lowest first.
-use native.Mathlib.Omega.{arith}
+use mathlib.Core.Path.{◌≡◌}
 use Rattle.sets.specs.Sets.{◌∪◌}
-use Rattle.sets.proofs.Members.{turn_below, turn_fewer}
 use Rattle.rules.proofs.Worklist.{gather_start, gather_end, gather_more}
 use Rattle.rules.proofs.judging.held.Goals as goal
 
-pub overflow_cast-v : goal.overflow_cast-v
-overflow_cast-v c =
-    omega (arith, turn_below _ c.loop-left.invariant.small c.loop-left-test.true _ c.lowest-v.ensures)
+pub loop-v-init : goal.loop-v-init
+loop-v-init c = let e : c.into_iter-v-iterator.result.left ≡ c.args.set = cc in rw e (gather_start _ _ c.ranges.set.fits)
 
-pub loop-left-smaller : goal.loop-left-smaller
-loop-left-smaller c =
-    turn_fewer _ c.loop-left.invariant.small c.loop-left-test.true _ c.lowest-v.ensures _ c.without-left.ensures
-
-pub loop-left-preserved : goal.loop-left-preserved
+pub loop-v-preserved : goal.loop-v-preserved
 unfolding ◌∪◌
-loop-left-preserved c =
-    gather_more _ _ _ _ c.loop-left.invariant c.loop-left-test.true _ c.lowest-v.ensures _ _ c.items-found.ensures c.without-left.ensures
-
-pub loop-left-init : goal.loop-left-init
-loop-left-init c = gather_start _ _ c.ranges.set.fits
+loop-v-preserved c =
+    let taken = c.in-Some.ensures.steps in
+    gather_more _ _ _ _ c.loop-v.invariant taken.0 _ taken.1 _ _ c.items-found.ensures taken.2
 
 pub returns : goal.returns
-returns c = gather_end _ _ _ _ c.loop-left.invariant c.loop-left-test.false
+returns c = gather_end _ _ _ _ c.loop-v.invariant c.in-None.ensures.steps.0

@@ -1,16 +1,15 @@
 -- `joins` tries the two gifts; no item is past 63.
-use mathlib.Core.Path.{sym, ◌∙◌}
+use mathlib.Core.Path.{sym, ap₂}
+use mathlib.Core.Bool.{◌||◌}
+use borrow.Author.Tests.{leb-true}
+use Rattle.flow.proofs.Bools.{or_elim}
 use Rattle.rules.proofs.MetLaws.{past_first, past_second}
 use Rattle.rules.proofs.judging.joins.Goals as goal
 
-pub returns-then-i-ge64 : goal.returns-then-i-ge64
-returns-then-i-ge64 c = let b = c.ranges in rw (past_first _ _ _ _ b.x.fits b.first.fits c.if-i-ge64.true, past_first _ _ _ _ b.y.fits b.second.fits c.if-i-ge64.true)
-
-pub returns-then-j-ge64 : goal.returns-then-j-ge64
-returns-then-j-ge64 c = let b = c.ranges in rw (past_second _ _ _ _ b.x.fits b.first.fits c.if-j-ge64.true, past_second _ _ _ _ b.y.fits b.second.fits c.if-j-ge64.true)
-
-pub returns-then-meet : goal.returns-then-meet
-returns-then-meet c = rw (sym c.meet.ensures ∙ c.if-meet.true)
-
-pub returns : goal.returns
-returns c = rw (sym c.meet.ensures ∙ c.if-meet.false) c.meet-2.ensures
+pub returns-then-i-j : goal.returns-then-i-j
+returns-then-i-j c =
+    let b = c.ranges in
+    or_elim _ _
+    (λ e. let l = leb-true _ _ e in sym (ap₂ ◌||◌ (past_first _ _ _ _ b.x.fits b.first.fits l) (past_first _ _ _ _ b.y.fits b.second.fits l)))
+    (λ e. let l = leb-true _ _ e in sym (ap₂ ◌||◌ (past_second _ _ _ _ b.x.fits b.first.fits l) (past_second _ _ _ _ b.y.fits b.second.fits l)))
+    c.if-i-j.true

@@ -1,23 +1,25 @@
 -- `judge_from` finds the first rule from `start` on that breaks anew.
-use mathlib.Core.Path.{refl, sym, ◌∙◌}
+use Prim.Native.Nat.{◌<◌}
+use mathlib.Core.Path.{◌≡◌, sym}
+use mathlib.Core.Bool.{true, false}
 use native.Mathlib.Omega.{arith}
-use Rattle.rules.specs.Stored.{condition_at}
-use Rattle.rules.proofs.Searching.{seek_hit, seek_miss, seek_end}
+use borrow.Author.Rules.{rules}
+use borrow.Author.Tests.{tests}
+use Rattle.std.proofs.lemmas.Iterator.{first_from_Range, serves_from_Range}
+use Rattle.store.specs.Maps.{items_in}
+use Rattle.rules.specs.Judging.{breaks_rule}
 use Rattle.rules.proofs.StoredLaws.{count_le}
 use Rattle.rules.proofs.judging.judge_from.Goals as goal
 
-pub loop-k-init : goal.loop-k-init
-loop-k-init c = (rw c.count-end.ensures (count_le _), c.count-end.ensures, refl)
-
-pub returns-then-breaks_anew : goal.returns-then-breaks_anew
-unfolding condition_at
-returns-then-breaks_anew c =
-    seek_hit _ _ _ _ c.loop-k.invariant.2 (omega arith) (sym (c.breaks_anew.ensures _ c.met-first.ensures c.met-second.ensures) ∙ c.if-breaks_anew.true)
-
-pub loop-k-preserved : goal.loop-k-preserved
-unfolding condition_at
-loop-k-preserved c =
-    (c.loop-k.invariant.0, c.loop-k.invariant.1, seek_miss _ _ _ _ c.loop-k.invariant.2 (omega arith) (sym (c.breaks_anew.ensures _ c.met-first.ensures c.met-second.ensures) ∙ c.if-breaks_anew.false))
-
 pub returns : goal.returns
-returns c = seek_end _ _ _ _ c.loop-k.invariant.2 (omega arith)
+returns c =
+    let f = breaks_rule (items_in c.args.words.now) c.args.plan c.args.rules.now.sets c.args.rules.now.fields in
+    rw (sym c.count.ensures) (first_from_Range _ _ _ _ (λ k. f k ≡ true) (λ k. f k ≡ false) c.find.ensures.ran (λ x q k. search (rules, tests)) (λ x q k. (search rules, search (rules, tests))))
+
+pub find-requires : goal.find-requires
+find-requires c =
+    record {
+      can = tt;
+      finite = tt;
+      callable = serves_from_Range (λ x q k. search rules) (λ x low high. let lt : x < 32 = omega (arith, c.count.ensures, count_le c.args.rules.now.fields) in λ y is. rw is (search rules));
+    }

@@ -1,12 +1,12 @@
 -- `meet` tries the two items in both orders.
-use mathlib.Core.Path.{sym, ◌∙◌}
+use mathlib.Core.Path.{refl, sym, ◌∙◌}
 use Rattle.rules.specs.Judging.{meet}
 use Rattle.rules.proofs.judging.meet.Goals as goal
 
 pub returns-then-both : goal.returns-then-both
 unfolding meet
-returns-then-both c = rw (sym c.both.ensures ∙ c.if-both.true)
+returns-then-both c = c.if-both.true ∙ rw (sym c.both.ensures ∙ c.if-both.true) refl
 
-pub returns : goal.returns
+pub returns-else-both : goal.returns-else-both
 unfolding meet
-returns c = rw (sym c.both.ensures ∙ c.if-both.false) c.both-2.ensures
+returns-else-both c = c.both-else-both.ensures ∙ rw (sym c.both.ensures ∙ c.if-both.false) refl

@@ -8,6 +8,6 @@ pub returns-then-b : goal.returns-then-b
 unfolding only_if
 returns-then-b c = sym (chosen_l _ _ 0 c.if-b.true)
 
-pub returns : goal.returns
+pub returns-else-b : goal.returns-else-b
 unfolding only_if
-returns c = sym (chosen_r _ _ 0 c.if-b.false)
+returns-else-b c = sym (chosen_r _ _ 0 c.if-b.false)

@@ -1,23 +1,19 @@
--- `breaks_now` asks the containers in order, until one breaks the rule.
-use mathlib.Core.Path.{sym, ◌∙◌}
-use native.Mathlib.Omega.{arith}
-use borrow.Author.Count.{below_none, below_more}
+-- `breaks_now` asks whether some container breaks the rule.
+use mathlib.Core.Path.{◌≡◌, refl}
+use mathlib.Core.Bool.{Bool, true, false}
+use Prim.Native.Nat.{ℕ}
+use lib.ListN.{get_or}
 use borrow.Author.Rules.{rules}
-use Rattle.flow.proofs.TableLaws.{some_of_lem, none_below}
-use Rattle.rules.specs.Judging.{broken_in}
+use borrow.Author.Tests.{tests}
+use Rattle.std.proofs.lemmas.Iterator.{cases_from_any, YieldsList-from_range}
+use Rattle.store.specs.Maps.{items_in}
+use Rattle.terms.specs.Rules.{condition_in}
+use Rattle.rules.specs.Judging.{breaks_with, broken_in}
+use Rattle.rules.proofs.Searching.{any_below}
 use Rattle.rules.proofs.loading.breaks_now.Goals as goal
-
-pub loop-c-init : goal.loop-c-init
-loop-c-init c = (search rules, below_none _)
-
-pub loop-c-preserved : goal.loop-c-preserved
-loop-c-preserved c =
-    (search rules, below_more _ _ c.loop-c.invariant.1 (rw c.items.ensures at (sym c.breaks_with.ensures ∙ c.if-breaks_with.false)))
-
-pub returns-then-breaks_with : goal.returns-then-breaks_with
-unfolding broken_in
-returns-then-breaks_with c = sym (some_of_lem 64 _ _ c.loop-c-test.true (rw c.items.ensures at (sym c.breaks_with.ensures ∙ c.if-breaks_with.true)))
 
 pub returns : goal.returns
 unfolding broken_in
-returns c = sym (none_below 64 _ (λ v l. c.loop-c.invariant.1 v (omega arith)))
+returns c =
+    let f : ℕ → Bool = λ v. breaks_with (get_or (items_in c.args.words.now) v 0) (condition_in c.args.rule.condition) v in
+    any_below f 64 _ (cases_from_any _ _ _ (λ v. f v ≡ true) (λ v. f v ≡ false) c.any.ensures.ran (YieldsList-from_range 0 64 64 refl refl) (λ x q k. search (rules, tests)) (λ x q k. search (rules, tests)))

@@ -1,16 +1,15 @@
--- `breaks_with` goes by the tag.
+-- `breaks_with` goes by the condition.
 use Rattle.rules.specs.Judging.{breaks_with}
-use Rattle.rules.proofs.ConditionLaws.{forbids_by, separates_by, confines_by}
 use Rattle.rules.proofs.loading.breaks_with.Goals as goal
 
-pub returns-then-rule-eq-SEPARATE_TAG : goal.returns-then-rule-eq-SEPARATE_TAG
+pub returns-in-Forbid : goal.returns-in-Forbid
 unfolding breaks_with
-returns-then-rule-eq-SEPARATE_TAG c = rw (separates_by _ _ _ c.if-rule-eq-SEPARATE_TAG.true, c.has-held.ensures, c.has.ensures)
+returns-in-Forbid c = rw (c.in-Forbid.is, c.has.ensures, c.has-in-Forbid.ensures)
 
-pub returns-then-rule-eq-FORBID_TAG : goal.returns-then-rule-eq-FORBID_TAG
+pub returns-in-Separate : goal.returns-in-Separate
 unfolding breaks_with
-returns-then-rule-eq-FORBID_TAG c = rw (forbids_by _ _ _ c.if-rule-eq-FORBID_TAG.true, c.has-held.ensures, c.has-inside.ensures)
+returns-in-Separate c = rw (c.in-Separate.is, c.has-in-Separate.ensures, c.has-in-Separate-2.ensures)
 
-pub returns : goal.returns
+pub returns-in-Confine : goal.returns-in-Confine
 unfolding breaks_with
-returns c = rw (confines_by _ _ _ c.if-rule-eq-SEPARATE_TAG.false c.if-rule-eq-FORBID_TAG.false, c.has-held.ensures, c.has-inside.ensures)
+returns-in-Confine c = rw (c.in-Confine.is, c.has-in-Confine.ensures, c.has-in-Confine-2.ensures)

@@ -1,13 +1,12 @@
--- `items_fit` goes by the tag.
-use mathlib.Core.Path.{sym, ap}
+-- `items_fit` goes by the condition.
+use mathlib.Core.Logic.{inl, inr}
 use Rattle.flow.specs.Refusals.{items_fit}
-use Rattle.rules.proofs.ConditionLaws.{separates_by, items_fit_by_set}
 use Rattle.rules.proofs.loading.items_fit.Goals as goal
 
-pub returns-then-rule-eq-SEPARATE_TAG : goal.returns-then-rule-eq-SEPARATE_TAG
+pub returns-in-Forbid : goal.returns-in-Forbid
 unfolding items_fit
-returns-then-rule-eq-SEPARATE_TAG c = sym (ap items_fit (separates_by _ _ _ c.if-rule-eq-SEPARATE_TAG.true))
+returns-in-Forbid c = elim c.in-Forbid.is [ inl e ↦ rw e.1 | inr e ↦ rw e.1 ]
 
-pub returns : goal.returns
+pub returns-in-Separate : goal.returns-in-Separate
 unfolding items_fit
-returns c = items_fit_by_set _ _ _ c.if-rule-eq-SEPARATE_TAG.false
+returns-in-Separate c = rw c.in-Separate.is

@@ -1,13 +1,11 @@
--- `same_items` goes by the tag.
-use mathlib.Core.Path.{sym, ap}
+-- `same_items` asks of two items only.
 use Rattle.flow.specs.Refusals.{same_items}
-use Rattle.rules.proofs.ConditionLaws.{separates_by, same_items_by_set}
+use Rattle.rules.proofs.LoadingLaws.{other_items}
 use Rattle.rules.proofs.loading.same_items.Goals as goal
 
-pub returns-then-rule-eq-SEPARATE_TAG : goal.returns-then-rule-eq-SEPARATE_TAG
+pub returns-in-Separate : goal.returns-in-Separate
 unfolding same_items
-returns-then-rule-eq-SEPARATE_TAG c = sym (ap same_items (separates_by _ _ _ c.if-rule-eq-SEPARATE_TAG.true))
+returns-in-Separate c = rw c.in-Separate.is
 
-pub returns : goal.returns
-unfolding same_items
-returns c = same_items_by_set _ _ _ c.if-rule-eq-SEPARATE_TAG.false
+pub returns-in_default : goal.returns-in_default
+returns-in_default c = other_items _ c.in_default.not-Separate

@@ -1,17 +1,16 @@
--- `any_low`: while the flag is 0, no file stands before entry i.
-use mathlib.Core.Path.{refl}
+-- `any_low`: while the flag is false, no file stands before the entry.
+use Rattle.std.proofs.Common.{refl}
 use lib.Seq.{take_all}
 use Rattle.store.specs.Maps.{files_in}
-use Rattle.store.proofs.Files.{none_low, flag_none}
-use borrow.Author.Rules.{rules}
+use Rattle.store.proofs.Files.{none_low}
 use Rattle.store.proofs.blocks.any_low.Goals as goal
 
-pub loop-i-init : goal.loop-i-init
+pub loop-e-init : goal.loop-e-init
 unfolding files_in
-loop-i-init c = (search rules, λ e. refl)
+loop-e-init c = λ e. refl
 
-pub loop-i-preserved : goal.loop-i-preserved
-loop-i-preserved c = (search rules, none_low _ _ _ c.loop-i-test.true c.loop-i.invariant.1)
+pub loop-e-preserved : goal.loop-e-preserved
+loop-e-preserved c = none_low _ _ _ c.loop-e-test.true c.loop-e.invariant
 
 pub returns : goal.returns
-returns c = λ e. rw (take_all _ _ c.loop-i-test.false) at (c.loop-i.invariant.1 (flag_none _ e))
+returns c = λ e. rw (take_all _ _ c.loop-e-test.false) at (c.loop-e.invariant e)

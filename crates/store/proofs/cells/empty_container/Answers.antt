@@ -1,23 +1,22 @@
 -- `empty_container` empties one container, if it is one.
 use Prim.Native.Nat.{ℕ}
-use native.Mathlib.Nat.{mod-eq_of_lt}
-use mathlib.Core.Path.{◌≡◌, sym, ap, ◌∙◌}
-use lib.ListN.{length}
+use native.Mathlib.Nat.{mod-eq_of_lt, mod-lt}
+use mathlib.Core.Path.{sym, ap, ◌∙◌}
 use Rattle.sets.specs.Sets.{only}
 use Rattle.store.specs.Maps.{view, with_items, cleared}
 use Rattle.store.proofs.Files.{container_set_low, container_set_past}
-use Rattle.store.proofs.Words.{none_cleared}
+use Rattle.store.proofs.Words.{none_cleared, item_cleared}
 use borrow.Author.Rules.{rules}
 use Rattle.store.proofs.cells.empty_container.Goals as goal
-use Rattle.store.proofs.cells.empty_container.Goals.{Else-e-lt-CONTAINERS}
 
 pub returns-then-e-lt-CONTAINERS : goal.returns-then-e-lt-CONTAINERS
 returns-then-e-lt-CONTAINERS c =
     let w = c.args.words.now in
-    λ d n. c.empty_one_part.ensures d n ∙ ap (λ (x : ℕ). with_items (view w d n) (cleared (view w d n).items x)) (ap only (mod-eq_of_lt c.if-e-lt-CONTAINERS.true) ∙ sym (container_set_low _ c.if-e-lt-CONTAINERS.true))
-
-long : (c : Else-e-lt-CONTAINERS) → length c.args.words.now ≡ 353
-long c = search rules
+    let e = c.args.e in
+    λ d n. item_cleared _ _ d n c.told-words _ (mod-lt e (search rules)) c.empty_at.ensures
+    ∙ ap (λ (x : ℕ). with_items (view w d n) (cleared (view w d n).items x)) (ap only (mod-eq_of_lt c.if-e-lt-CONTAINERS.true) ∙ sym (container_set_low _ c.if-e-lt-CONTAINERS.true))
 
 pub returns-else-e-lt-CONTAINERS : goal.returns-else-e-lt-CONTAINERS
-returns-else-e-lt-CONTAINERS c = let w = c.args.words.now in λ d n. none_cleared w d n (long c) ∙ ap (λ (x : ℕ). with_items (view w d n) (cleared (view w d n).items x)) (sym (container_set_past _ c.if-e-lt-CONTAINERS.false))
+returns-else-e-lt-CONTAINERS c =
+    let w = c.args.words.now in
+    λ d n. none_cleared w d n c.told-words ∙ ap (λ (x : ℕ). with_items (view w d n) (cleared (view w d n).items x)) (sym (container_set_past _ c.if-e-lt-CONTAINERS.false))

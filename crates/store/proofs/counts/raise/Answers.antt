@@ -6,8 +6,9 @@ use mathlib.Core.Path.{ap, ◌∙◌}
 use mathlib.Core.List.{[]}
 use lib.ListN.{set}
 use Rattle.flow.specs.Box.{row_of}
-use Rattle.flow.specs.Calls.{sort_of, with_row, raised}
+use Rattle.flow.specs.Calls.{with_row, raised}
 use Rattle.store.specs.Maps.{view, with_tables}
+use Rattle.store.specs.Sorts.{sort_in}
 use Rattle.store.proofs.counts.raise.Goals as goal
 
 pub returns : goal.returns
@@ -15,11 +16,8 @@ unfolding raised
 returns c d n =
     let a = c.args in
     let m = view a.words.now d n in
-    let x = sort_of a.x.0 in
+    let x = sort_in a.x in
     c.recount.ensures d n ∙ ap (λ (z : ℕ). with_tables m (with_row m.tables x a.p.0 (set (row_of m.tables x a.p.0) a.c.0 z))) (add-one c.count-n.result ∙ ap suc (c.count-n.ensures d n))
 
 pub overflow_add-n : goal.overflow_add-n
 overflow_add-n c = omega (arith, c.count-n.ensures [] [], c.requires.2)
-
-pub recount-requires : goal.recount-requires
-recount-requires c = (c.requires.0, c.requires.1)

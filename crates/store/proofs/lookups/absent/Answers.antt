@@ -1,25 +1,22 @@
 -- `absent` asks for one member after the other.
-use native.Mathlib.Omega.{arith}
-use mathlib.Core.Path.{refl}
-use Rattle.sets.proofs.Members.{turn_below, turn_less}
-use Rattle.flow.specs.Lists.{is_in}
-use Rattle.store.proofs.Unused.{sifting_start, sifting_more, sifting_end}
-use borrow.Author.Rules.{rules}
+use Rattle.std.proofs.Common.{◌≡◌, not, sym, ap}
+use Rattle.store.proofs.Unused.{sifting_start, sifting_kept, sifting_left, sifting_end}
 use Rattle.store.proofs.lookups.absent.Goals as goal
 
-pub overflow_cast-v : goal.overflow_cast-v
-overflow_cast-v c = omega (arith, turn_below _ c.loop-left.invariant.small c.loop-left-test.true _ c.lowest-v.ensures)
+pub loop-v-init : goal.loop-v-init
+loop-v-init c =
+    let e : c.into_iter-v-iterator.result.left ≡ c.args.x = rw c.into_iter-v-iterator.ensures.into_iter_gives c.each-v-items.ensures in
+    rw e (sifting_start _ _ c.ranges.x.fits)
 
-pub loop-left-smaller : goal.loop-left-smaller
-loop-left-smaller c =
-    turn_less _ c.loop-left.invariant.small c.loop-left-test.true _ c.lowest-v.ensures _ c.rest-left.ensures
+pub loop-v-preserved-then-not-stands : goal.loop-v-preserved-then-not-stands
+loop-v-preserved-then-not-stands c =
+    let s = c.in-Some.ensures.steps in
+    rw c.with-found.ensures (sifting_kept c.loop-v.invariant s.0 _ s.1 _ s.2 (ap not (sym c.if-not-stands.ensures)))
 
-pub loop-left-preserved : goal.loop-left-preserved
-loop-left-preserved c =
-    sifting_more c.loop-left.invariant c.loop-left-test.true _ c.lowest-v.ensures _ c.rest-left.ensures (is_in c.lowest-v.result c.args.table.now) refl c.with_absent-found.ensures
-
-pub loop-left-init : goal.loop-left-init
-loop-left-init c = sifting_start _ _ (search rules)
+pub loop-v-preserved : goal.loop-v-preserved
+loop-v-preserved c =
+    let s = c.in-Some.ensures.steps in
+    sifting_left c.loop-v.invariant s.0 _ s.1 _ s.2 (ap not (sym c.if-not-stands.ensures))
 
 pub returns : goal.returns
-returns c = sifting_end c.loop-left.invariant c.loop-left-test.false
+returns c = sifting_end c.loop-v.invariant c.in-None.ensures.steps.0

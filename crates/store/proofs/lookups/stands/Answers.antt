@@ -1,17 +1,16 @@
--- `stands`: before entry i the flag says whether c stands before it.
-use mathlib.Core.Path.{refl}
+-- `stands`: before an entry the flag says whether c stands before it.
+use Rattle.std.proofs.Common.{refl, ap, ◌∙◌}
 use lib.Seq.{take_all}
-use borrow.Author.Rules.{rules}
 use Rattle.flow.specs.Lists.{is_in}
-use Rattle.store.proofs.Use.{is_in_byte, byte_test}
+use Rattle.store.proofs.Use.{is_in_more}
 use Rattle.store.proofs.lookups.stands.Goals as goal
 
-pub loop-i-init : goal.loop-i-init
+pub loop-e-init : goal.loop-e-init
 unfolding is_in
-loop-i-init c = (search rules, refl)
+loop-e-init c = refl
 
-pub loop-i-preserved : goal.loop-i-preserved
-loop-i-preserved c = (search rules, rw c.loop-i.invariant.1 (is_in_byte _ _ _ c.loop-i-test.true))
+pub loop-e-preserved : goal.loop-e-preserved
+loop-e-preserved c = rw c.loop-e.invariant (is_in_more _ _ _ c.loop-e-test.true)
 
 pub returns : goal.returns
-returns c = rw (c.loop-i.invariant.1, take_all _ _ c.loop-i-test.false) (byte_test _)
+returns c = c.loop-e.invariant ∙ ap (is_in c.args.c) (take_all _ _ c.loop-e-test.false)

@@ -6,18 +6,8 @@ use Rattle.tracker.proofs.Joined.{passes_on}
 use Rattle.tracker.proofs.calls.finish.Goals as goal
 
 pub change_tables-requires : goal.change_tables-requires
-change_tables-requires c =
-    let a = c.args in
-    passes_on a.words.now a.descriptors.now a.names.now _ a.q c.requires (ap (λ (m : Maps). m.tables) (c.empty_container.ensures a.descriptors.now a.names.now))
+change_tables-requires c = passes_on _ c.requires (ap (λ (m : Maps). m.tables) c.empty.ensures)
 
 pub returns : goal.returns
 unfolding finished
-returns c =
-    let a = c.args in
-    c.release.ensures ∙ rw (c.change_tables.ensures, c.empty_container.ensures a.descriptors.now a.names.now, c.emptied_by-emptied.ensures, c.lost_by-lost.ensures) refl
-
-pub lost_by-lost-requires : goal.lost_by-lost-requires
-lost_by-lost-requires c = c.requires
-
-pub emptied_by-emptied-requires : goal.emptied_by-emptied-requires
-emptied_by-emptied-requires c = c.requires
+returns c = c.release.ensures ∙ rw (c.change_tables.ensures, c.empty.ensures, c.emptied_by-emptied.ensures, c.lost_by-lost.ensures) refl

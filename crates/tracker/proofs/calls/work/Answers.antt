@@ -1,59 +1,57 @@
 -- `work` refuses, or gives and finishes, or finishes.
 use native.Mathlib.Omega.{arith}
 use mathlib.Core.Path.{◌≡◌, sym, ap, ◌∙◌}
+use mathlib.Core.Option.{Option, none, some}
 use lib.ListN.{length}
+use Rattle.std.specs.Prelude.{Err}
+use Rattle.flow.specs.Lists.{first_that}
+use Rattle.flow.specs.Refusals.{call_tests}
+use Rattle.flow.specs.Calls.{Call}
 use Rattle.store.specs.Maps.{Maps, view}
 use Rattle.store.proofs.Parts.{part_length}
 use Rattle.store.proofs.Writes.{sized_view}
-use Rattle.tracker.specs.Rows.{Passes}
+use Rattle.terms.specs.Calls.{asked}
+use Rattle.tracker.specs.Calling.{gained_by}
 use Rattle.tracker.specs.Worked.{finished}
-use Rattle.tracker.proofs.Joined.{refused, passes, quiet_given, finished_call, worked_out, gained_call, gained_quiet}
+use Rattle.tracker.proofs.Joined.{refused, quiet_given, finished_call, worked_out, gained_call, gained_quiet}
 use borrow.Author.Rules.{rules}
 use Rattle.tracker.proofs.calls.work.Goals as goal
-use Rattle.tracker.proofs.calls.work.Goals.{After-lengths, Else-n-ne0}
 
-long : (c : After-lengths) → length c.args.words.now ≡ 353
-long c = search rules
+pub returns-in_err-known-clause-worked : goal.returns-in_err-known-clause-worked
+unfolding gained_by
+returns-in_err-known-clause-worked c =
+    let e : c.from_residual.result ≡ Err c.in_err-known.field-0.0 = search rules in
+    rw e (refused _ _ _ c.in_err-known.ensures.tested)
 
-named : (c : After-lengths) → length c.args.names.now ≡ 128
-named c = search rules
+pub returns-then-gives-clause-worked : goal.returns-then-gives-clause-worked
+unfolding view gained_by
+returns-then-gives-clause-worked c =
+    let t = c.args.t.now in
+    let m = view t.words t.descriptors t.names in
+    let q = asked c.in_ok-known.known in
+    let l : length t.words ≡ 353 = search rules in
+    let n : length t.names ≡ 128 = search rules in
+    let k = part_length 1 64 t.words (omega arith) in
+    let f = c.in_ok-known.ensures in
+    let h : first_that (call_tests m.tables (some q)) ≡ none = sym (f.tested ∙ ap (λ (o : Option Call). first_that (call_tests m.tables o)) f.known) in
+    rw f.known
+    (worked_out _ _ _ _ h
+    (c.give.ensures.made ∙ finished_call m k (sized_view t.words _ _) n q h)
+    (c.give.ensures.told ∙ gained_call m k (sized_view t.words _ _) n q h))
 
--- the call passes
-passing : (c : Else-n-ne0) → (Passes c.args.words.now c.args.descriptors.now c.args.names.now c.args.q)
-passing c = record { none_holds = passes _ _ c.refusal-n.ensures c.if-n-ne0.false }
-
-pub returns-then-gives : goal.returns-then-gives
-unfolding view
-returns-then-gives c =
-    let a = c.args in
-    let w = a.words.now in
-    let e : length w ≡ 353 = long (goal.at.returns-then-gives c).After-lengths in
-    let h = (passing (goal.at.returns-then-gives c).Else-n-ne0).none_holds in
-    let m = view w a.descriptors.now a.names.now in
-    let k = part_length 1 64 w (omega arith) in
-    worked_out _ _ _ _ h
-    (c.give-gained.ensures.made ∙ finished_call m k (sized_view w _ _) (named (goal.at.returns-then-gives c).After-lengths) a.q h)
-    (c.give-gained.ensures.told ∙ gained_call m k (sized_view w _ _) (named (goal.at.returns-then-gives c).After-lengths) a.q h)
-
-pub returns : goal.returns
-unfolding view
-returns c =
-    let a = c.args in
-    let w = a.words.now in
-    let e : length w ≡ 353 = long (goal.at.returns c).After-lengths in
-    let h = (passing (goal.at.returns c).Else-n-ne0).none_holds in
-    let m = view w a.descriptors.now a.names.now in
-    let k = part_length 1 64 w (omega arith) in
-    let n = sym c.gives.ensures ∙ c.if-gives.false in
-    worked_out _ _ _ _ h
-    (c.finish.ensures ∙ ap (λ (x : Maps). finished x a.q) (quiet_given m k a.q n) ∙ finished_call m k (sized_view w _ _) (named (goal.at.returns c).After-lengths) a.q h)
-    (gained_quiet m k (sized_view w _ _) (named (goal.at.returns c).After-lengths) a.q h n)
-
-pub returns-then-n-ne0 : goal.returns-then-n-ne0
-returns-then-n-ne0 c = refused _ _ _ c.refusal-n.ensures c.if-n-ne0.true
-
-pub give-gained-requires : goal.give-gained-requires
-give-gained-requires c = (passing (goal.at.give-gained-requires c).Else-n-ne0, sym c.gives.ensures ∙ c.if-gives.true)
-
-pub finish-requires : goal.finish-requires
-finish-requires c = passing (goal.at.finish-requires c).Else-n-ne0
+pub returns-clause-worked : goal.returns-clause-worked
+unfolding view gained_by
+returns-clause-worked c =
+    let t = c.args.t.now in
+    let m = view t.words t.descriptors t.names in
+    let q = asked c.in_ok-known.known in
+    let l : length t.words ≡ 353 = search rules in
+    let n : length t.names ≡ 128 = search rules in
+    let k = part_length 1 64 t.words (omega arith) in
+    let f = c.in_ok-known.ensures in
+    let h : first_that (call_tests m.tables (some q)) ≡ none = sym (f.tested ∙ ap (λ (o : Option Call). first_that (call_tests m.tables o)) f.known) in
+    let quiet = sym c.gives.ensures ∙ c.if-gives.false in
+    rw f.known
+    (worked_out _ _ _ _ h
+    (c.finish.ensures ∙ ap (λ (x : Maps). finished x q) (quiet_given m k q quiet) ∙ finished_call m k (sized_view t.words _ _) n q h)
+    (gained_quiet m k (sized_view t.words _ _) n q h quiet))

@@ -1,39 +1,35 @@
 -- `fill` writes the members of the set, the lowest first: after n turns n of them stand at the front of the slice and the others are left.
+use Prim.Native.Nat.{◌^◌, ◌<◌}
 use native.Mathlib.Omega.{arith}
-use Rattle.tracker.proofs.Holders.{partly_none, Turn, partly_more, partly_all}
+use mathlib.Core.Logic.{inl}
+use Rattle.std.specs.Iterator.Adapters.{enumerate_source, enumerate_count}
+use Rattle.sets.specs.Sets.{count}
+use Rattle.sets.proofs.Members.{count_le}
+use Rattle.tracker.proofs.Holders.{partly_none, Turn, counted_on, partly_more, partly_all}
 use Rattle.tracker.proofs.queries.fill.Goals as goal
-use Rattle.tracker.proofs.queries.fill.Goals.{After-lowest-c}
+use Rattle.tracker.proofs.queries.fill.Goals.{In-Some}
 
-turn : (c : After-lowest-c) →
-    Turn c.args.x c.args.out.now c.loop-left.out c.loop-left.left
-    c.loop-left.n c.lowest-c.result
+turn : (c : In-Some) →
+    Turn c.args.x c.args.out.now c.loop-n.out (enumerate_count c.loop-n.n-iterator) c.in-Some.c (enumerate_source c.next.new.self).left
 turn c =
-    partly_more c.args.x c.args.out.now c.loop-left.out c.loop-left.left c.loop-left.n c.loop-left.invariant c.loop-left-test.true c.requires
-    c.lowest-c.result c.lowest-c.ensures
+    partly_more c.args.x c.args.out.now c.loop-n.out (enumerate_source c.loop-n.n-iterator).left (enumerate_count c.loop-n.n-iterator)
+    c.loop-n.invariant.2 c.requires c.in-Some.c (enumerate_source c.next.new.self).left c.in-Some.ensures.steps.0
 
-pub loop-left-init : goal.loop-left-init
-loop-left-init c = partly_none c.args.x c.args.out.now c.ranges.x.fits
-
-pub overflow_cast-out : goal.overflow_cast-out
-overflow_cast-out c = omega (arith, (turn c).below)
+pub loop-n-init : goal.loop-n-init
+loop-n-init c =
+    rw (c.into_iter-n-iterator.ensures.into_iter_gives, c.enumerate-n-items.ensures.source, c.enumerate-n-items.ensures.count, c.each.ensures)
+    ((tt, tt, inl (let h : count c.args.x < 2 ^ 64 = omega (arith, count_le c.args.x c.ranges.x.fits) in omega arith)), tt, partly_none c.args.x c.args.out.now c.ranges.x.fits)
 
 pub bounds-out-n : goal.bounds-out-n
-bounds-out-n c = (turn c).room
+bounds-out-n c = rw c.in-Some.ensures.steps.1 (turn (goal.at.bounds-out-n c).In-Some).room
 
-pub overflow_cast-c : goal.overflow_cast-c
-overflow_cast-c c = omega (arith, (turn c).below)
-
-pub overflow_add-n : goal.overflow_add-n
-overflow_add-n c = omega (arith, (turn (goal.at.overflow_add-n c).After-lowest-c).room)
-
-pub loop-left-smaller : goal.loop-left-smaller
-loop-left-smaller c = (turn (goal.at.loop-left-smaller c).After-lowest-c).fewer c.without-left.result c.without-left.ensures
-
-pub loop-left-preserved : goal.loop-left-preserved
-loop-left-preserved c = (turn (goal.at.loop-left-preserved c).After-lowest-c).next c.without-left.result c.without-left.ensures
-
-pub shape_of-out : goal.shape_of-out
-shape_of-out c = c.loop-left.invariant.long
+pub loop-n-preserved : goal.loop-n-preserved
+loop-n-preserved c =
+    let p = (turn (goal.at.loop-n-preserved c).In-Some).next in
+    rw (c.from.ensures, c.in-Some.ensures.steps.1, c.in-Some.ensures.steps.2)
+    ((tt, tt, inl (counted_on _ _ _ _ _ p c.ranges.x.fits)), tt, p)
 
 pub returns : goal.returns
-returns c = let a = c.args in partly_all a.x a.out.now c.loop-left.out c.loop-left.left c.loop-left.n c.loop-left.invariant c.loop-left-test.false
+returns c =
+    partly_all c.args.x c.args.out.now c.loop-n.out (enumerate_source c.loop-n.n-iterator).left (enumerate_count c.loop-n.n-iterator)
+    c.loop-n.invariant.2 c.in-None.ensures.steps.0.0

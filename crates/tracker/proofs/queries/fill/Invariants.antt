@@ -1,9 +1,10 @@
-use Rattle.sets.specs.Sets.{count}
+use Rattle.std.specs.Iterator.Adapters.{enumerate_source, enumerate_count}
 use Rattle.tracker.proofs.Holders.{Partly}
 use Rattle.tracker.proofs.queries.fill.Given as goal
 
-abbrev pub invariant-loop-left : goal.invariant-loop-left
-invariant-loop-left l = Partly l.x l.initial.out l.out l.left l.n
-
-abbrev pub decreases-loop-left : goal.decreases-loop-left
-decreases-loop-left l = count l.left
+-- the members left are those of the iterator, and as many as it counted are written
+abbrev pub invariant-loop-n : goal.invariant-loop-n
+invariant-loop-n l =
+    (goal.iterator-loop-n).can_next l.n-iterator
+    × (goal.iterator-loop-n).is_finite l.n-iterator
+    × Partly l.x l.initial.out l.out (enumerate_source l.n-iterator).left (enumerate_count l.n-iterator)

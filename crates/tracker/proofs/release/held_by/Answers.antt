@@ -6,6 +6,4 @@ use Rattle.tracker.proofs.release.held_by.Goals as goal
 
 pub returns : goal.returns
 unfolding held_by view ◌∪◌ ◌∩◌
-returns c n =
-    let d = c.args.descriptors.now in
-    rw (c.block_files.ensures, c.maps.ensures d n)
+returns c = let t = c.args.t.now in rw (c.block_files.ensures, c.maps.ensures t.descriptors t.names)

@@ -8,9 +8,10 @@ use Rattle.tracker.proofs.tables.exit.Goals as goal
 
 pub returns : goal.returns
 unfolding view with_live with_row with_rows with_descriptors tables_by
-returns c n =
+returns c =
     let pre = c.requires in
     let d = c.close_block.new.descriptors in
+    let n = c.args.t.now.names in
     c.set_live.ensures d n
     ∙ ap (λ (m : Maps). with_tables m (with_live m.tables c.without.result)) (c.clear_rows.ensures d n)
     ∙ rw (c.close_block.ensures, c.without.ensures, c.live-z.ensures, mod-eq_of_lt pre, below16 pre) refl

@@ -1,8 +1,0 @@
--- `store` sets the five numbers of the rule and the count.
-use native.Mathlib.Omega.{arith}
-use Rattle.rules.proofs.StoredLaws.{rule_stored}
-use borrow.Author.Rules.{rules}
-use Rattle.rules.proofs.stored.store.Goals as goal
-
-pub returns : goal.returns
-returns c = rule_stored _ _ _ (search rules) (search rules) _ c.count-k.ensures (omega arith) (search rules)
