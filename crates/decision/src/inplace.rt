@@ -191,11 +191,15 @@ pub fn answer_in(m: &mut Monitor, bytes: &[u8]) -> Answer
     }
 }
 
-// The same, as a number.
+// The same, as a number. A call goes by `call_code`, so that in the library `call_in` has one caller and becomes a part of it (DECISIONS S11).
 pub fn answer_code(m: &mut Monitor, bytes: &[u8]) -> u32
     ensures { Coded (AnswersRecord m.old bytes.now) result m.new }
 {
-    code(answer_in(m, bytes))
+    match read(bytes) {
+        Ok(Record::Call(q)) => call_code(m, q),
+        Ok(Record::Rule(rule)) => code(load_in(m, rule)),
+        Err(refusal) => code(Answer::Refused(refusal)),
+    }
 }
 
 // Answers the records of a log in order. Each answer goes to the front of `codes` as a number, and the reply is how many they are: so C takes
