@@ -8,13 +8,13 @@ use lib.ListN.{length}
 use Rattle.sets.specs.Sets.{members, without, lowest, count}
 use Rattle.sets.proofs.Members.{count_less, lowest_has}
 use Rattle.sets.proofs.Rising.{members_none, members_count, members_le}
-use Rattle.flow.specs.Verdicts.{Outcome, refuses, loads, allows, inhibits, modifies, gained_by, refused, inhibit, answer_of}
+use Rattle.flow.specs.Verdicts.{Outcome, refuses, loads, allows, inhibits, modifies, gained_by, refused, rule, allow, inhibit, modify, answer_of}
 use Rattle.terms.specs.declared.refusal.Refusal.{Refusal}
 use Rattle.terms.specs.Refusals.{number}
 use Rattle.decision.specs.declared.Answer.{Answer}
 use Rattle.decision.specs.declared.Answer.TheVariants.{Refused, Loaded, Allow, Inhibit, Modify}
 use Rattle.decision.specs.Answers.{word_of, gained_in, refusal_in}
-use Rattle.decision.specs.Logs.{code_of, word_by, word_from, InBytes, CodesTell}
+use Rattle.decision.specs.Logs.{code_of, word_by, word_from, InBytes, CodesTell, WordInBytes, WordsTell}
 use Rattle.decision.proofs.Refusals.{refusal_by, refusal_of, Named}
 
 -- the answer to an outcome
@@ -115,16 +115,27 @@ four w n c g lw ln lc lg =
 few : (g : ℕ) → g < 2 ^ 64 → length (members g) < 256
 few g h = omega (arith, members_le g h)
 
+pub words_tell : WordsTell
+unfolding WordsTell WordInBytes code_of word_by word_from
+words_tell (refused n) h = one 4 n (omega arith) h
+words_tell (rule n) h = one 3 n (omega arith) h
+words_tell (allow g) h =
+    let e : 16777216 * g ≡ 0 + 256 * 0 + 65536 * 0 + 16777216 * g = omega arith in
+    ap word_from e ∙ four 0 0 0 g (omega arith) (omega arith) (omega arith) h
+words_tell (inhibit n) h = one 1 n (omega arith) h
+words_tell (modify n c g) h = four 2 n c g (omega arith) h.0 h.1 h.2
+
+word_bytes : (a : Answer) → InBytes a → WordInBytes (word_of a)
+unfolding InBytes word_of WordInBytes
+word_bytes (Refused r) h = h
+word_bytes (Loaded n) h = h
+word_bytes (Allow g) h = few g h
+word_bytes (Inhibit n) h = h
+word_bytes (Modify n c g) h = (h.0, h.1, few g h.2)
+
 pub codes_tell : CodesTell
-unfolding CodesTell InBytes word_of code_of word_by word_from
-codes_tell (Refused r) h = one 4 (number r) (omega arith) h
-codes_tell (Loaded n) h = one 3 n (omega arith) h
-codes_tell (Allow g) h =
-    let n : ℕ = length (members g) in
-    let e : 16777216 * n ≡ 0 + 256 * 0 + 65536 * 0 + 16777216 * n = omega arith in
-    ap word_from e ∙ four 0 0 0 n (omega arith) (omega arith) (omega arith) (few g h)
-codes_tell (Inhibit n) h = one 1 n (omega arith) h
-codes_tell (Modify n c g) h = four 2 n c (length (members g)) (omega arith) h.0 h.1 (few g h.2)
+unfolding CodesTell WordsTell
+codes_tell a h = words_tell (word_of a) (word_bytes a h)
 
 -- a code fits its place in the slice
 pub code_lt : (a : Answer) → InBytes a → code_of (word_of a) < 2 ^ 32

@@ -50,6 +50,18 @@ InBytes (Allow g) = g < 2 ^ 64
 InBytes (Inhibit n) = n < 256
 InBytes (Modify n c g) = (n < 256) × (c < 256) × (g < 2 ^ 64)
 
+-- each number of the word is a byte
+unfoldable pub WordInBytes : Word → Type 0
+WordInBytes (refused n) = n < 256
+WordInBytes (rule n) = n < 256
+WordInBytes (allow g) = g < 256
+WordInBytes (inhibit n) = n < 256
+WordInBytes (modify n c g) = (n < 256) × (c < 256) × (g < 256)
+
+-- A code tells its word, by whatever number the word refuses.
+unfoldable pub WordsTell : Type 0
+WordsTell = (w : Word) → WordInBytes w → word_from (code_of w) ≡ w
+
 -- A code tells its answer: of an answer in bytes, the code stands for its word and numbers.
 unfoldable pub CodesTell : Type 0
 CodesTell = (a : Answer) → InBytes a → word_from (code_of (word_of a)) ≡ word_of a

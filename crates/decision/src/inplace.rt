@@ -32,7 +32,7 @@ use terms::refusal::Refusal;
 use terms::rule::Rule;
 use tracker::calls::finish;
 use tracker::giving::{Copying, Exchange, Giving, Once};
-use tracker::plan::{gives, giving};
+use tracker::plan::{can_give, giving};
 use tracker::queries::Reply;
 use tracker::rows::admit;
 use tracker::{Call, Tracker};
@@ -122,7 +122,7 @@ fn admitted(m: &mut Monitor, q: KnownCall) -> Answer
 {
     // How long the arrays are: of a struct within a struct the proof does not know it.
     lengths(&m.tracker.words, &m.tracker.names);
-    if !gives(q.kind) {
+    if !can_give(q.kind) {
         finish(&mut m.tracker, q);
         return Answer::Allow(0);
     }

@@ -3,6 +3,7 @@ ghost use Rattle.std.specs.Prelude.{◌≤◌, ◌≡◌, leb, length};
 ghost use Rattle.sets.specs.Sets.{members};
 ghost use Rattle.flow.specs.Box.{container_count};
 ghost use Rattle.flow.specs.Records.{records_of};
+ghost use Rattle.flow.specs.Verdicts.{refused};
 ghost use Rattle.decision.specs.Answers.{word_of};
 ghost use Rattle.decision.specs.Logs.{code_of};
 
@@ -41,6 +42,14 @@ fn size(x: u64) -> u32
     1 + sets::count(more)
 }
 
+// The code of a refusal by its number, whichever number it is.
+#[tactic(auto, unfolding(crate::specs::Logs::code_of))]
+pub fn refused_code(n: u8) -> u32
+    ensures { result ≡ code_of (refused n) }
+{
+    4 + 256 * (n as u32)
+}
+
 // An answer as a number, since C has no such enum. The sums are those of `code_of`.
 pub fn code(answer: Answer) -> u32
     ensures { result ≡ code_of (word_of answer) }
@@ -50,7 +59,7 @@ pub fn code(answer: Answer) -> u32
         Answer::Inhibit(n) => 1 + 256 * (n as u32),
         Answer::Modify(n, c, g) => 2 + 256 * (n as u32) + 65536 * (c as u32) + 16777216 * size(g),
         Answer::Loaded(n) => 3 + 256 * (n as u32),
-        Answer::Refused(refusal) => 4 + 256 * (refusal.number() as u32),
+        Answer::Refused(refusal) => refused_code(refusal.number()),
     }
 }
 

@@ -1,5 +1,6 @@
 -- What a call makes of the items: what it gives, as a plan, what it empties, and what it may end the use of.
 use Rattle.std.specs.Prelude.{ℕ, Bool, true, false, not, ◌&&◌, ◌≡◌, Option, None, Some, get_or}
+use Rattle.std.proofs.Math.Option.{Option as Maybe, none, some}
 use Rattle.sets.specs.Sets.{has, only, those, ◌∪◌, ◌∩◌}
 use Rattle.flow.specs.Box.{container_of, Tables, feeders_of, descriptor, name}
 use Rattle.flow.specs.Links.{reach, given_from, is_fed, used}
@@ -74,6 +75,11 @@ gives_by link = false
 gives_by fork = true
 gives_by exit = false
 gives_by label = true
+
+-- the same of a number's kind, if it has one
+unfoldable pub gives_at : Maybe Kind → Bool
+gives_at none = false
+gives_at (some k) = gives_by k
 
 -- calls that give once: neither a map both, which gives twice, nor a fork, which gives to a container that it empties
 abbrev pub GivesOnce : Call → Type 0

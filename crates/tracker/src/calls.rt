@@ -11,7 +11,7 @@ ghost use Rattle.tracker.specs.Plans.{gives_by};
 
 use crate::Tracker;
 use crate::giving::{Copying, Exchange, Giving, Once};
-use crate::plan::gives;
+use crate::plan::can_give;
 use crate::release::{emptied_by, empty, lost_by, release};
 use crate::rows::admit;
 use crate::tables::change_tables;
@@ -61,7 +61,7 @@ pub fn work(t: &mut Tracker, q: Call) -> Result<u64, Refusal>
     ensures kept { OnErr result (t.new ≡ t.old) }
 {
     let known = admit(t, q)?;
-    if gives(known.kind) {
+    if can_give(known.kind) {
         return Ok(give(t, known));
     }
     finish(t, known);

@@ -2,12 +2,13 @@
 ghost use Rattle.std.specs.Prelude.{ℕ, ◌<◌, ◌≡◌, List};
 ghost use Rattle.flow.specs.Box.{container_count};
 ghost use Rattle.flow.specs.Calls.{exchange, map_both, fork};
+ghost use Rattle.flow.specs.Records.{kind_of};
 ghost use Rattle.store.specs.Maps.{view as maps_of};
 ghost use Rattle.terms.specs.Calls.{asked};
 ghost use Rattle.terms.specs.Kinds.{kind_in};
 ghost use Rattle.tracker.specs.View.{view};
 ghost use Rattle.tracker.specs.Rows.{Passes};
-ghost use Rattle.tracker.specs.Plans.{plan_of, plan_for, giving as giving_to, gives_by, GivesOnce};
+ghost use Rattle.tracker.specs.Plans.{plan_of, plan_for, giving as giving_to, gives_by, gives_at, GivesOnce};
 
 use crate::Tracker;
 use store::Plan;
@@ -20,13 +21,24 @@ use terms::kind::Kind;
 
 // Whether calls of this kind can give an item to a container.
 #[tactic(auto, unfolding(crate::specs::Plans::gives_by))]
-pub fn gives(kind: Kind) -> bool
+pub fn can_give(kind: Kind) -> bool
     ensures { result ≡ gives_by (kind_in kind) }
 {
     matches!(
         kind,
         Kind::Read | Kind::Write | Kind::MapRead | Kind::MapBoth | Kind::Fork | Kind::Label
     )
+}
+
+// The same of any number: one that is no kind's gives nothing.
+#[tactic(auto, unfolding(crate::specs::Plans::gives_at))]
+pub fn gives(kind: u8) -> bool
+    ensures { result ≡ gives_at (kind_of kind) }
+{
+    match Kind::try_from(kind) {
+        Ok(known) => can_give(known),
+        Err(_) => false,
+    }
 }
 
 // The items x given to the set r.

@@ -11,12 +11,12 @@ use Rattle.decision.proofs.VerdictLaws.{found_lt}
 use borrow.Author.Rules.{rules}
 use Rattle.decision.proofs.inplace.admitted.Goals as goal
 
-pub returns-then-not-gives-clause-answers : goal.returns-then-not-gives-clause-answers
-returns-then-not-gives-clause-answers c =
+pub returns-then-not-can_give-clause-answers : goal.returns-then-not-can_give-clause-answers
+returns-then-not-can_give-clause-answers c =
     let m = c.args.m.now in
     let long : length m.tracker.words ≡ 353 = search rules in
     let named : length m.tracker.names ≡ 128 = search rules in
-    allowed_call m _ long named c.requires _ _ (gives_nothing m _ long (sym c.gives.ensures ∙ c.if-not-gives.true) _ c.finish.ensures)
+    allowed_call m _ long named c.requires _ _ (gives_nothing m _ long (sym c.can_give.ensures ∙ c.if-not-can_give.true) _ c.finish.ensures)
 
 -- the rule is one of the 32, and the call passes on what was kept
 pub stop_in-requires : goal.stop_in-requires

@@ -22,4 +22,4 @@ returns-in-Loaded c = rw c.in-Loaded.is refl
 
 pub returns-in-Refused : goal.returns-in-Refused
 unfolding code_of word_of
-returns-in-Refused c = rw (c.in-Refused.is, ← c.number.ensures) refl
+returns-in-Refused c = rw (c.in-Refused.is, ← c.number.ensures) c.refused_code.ensures

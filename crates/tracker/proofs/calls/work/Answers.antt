@@ -23,9 +23,9 @@ returns-in_err-known-clause-worked c =
     let e : c.from_residual.result ≡ Err c.in_err-known.field-0.0 = search rules in
     rw e (refused _ _ _ c.in_err-known.ensures.tested)
 
-pub returns-then-gives-clause-worked : goal.returns-then-gives-clause-worked
+pub returns-then-can_give-clause-worked : goal.returns-then-can_give-clause-worked
 unfolding view gained_by
-returns-then-gives-clause-worked c =
+returns-then-can_give-clause-worked c =
     let t = c.args.t.now in
     let m = view t.words t.descriptors t.names in
     let q = asked c.in_ok-known.known in
@@ -50,7 +50,7 @@ returns-clause-worked c =
     let k = part_length 1 64 t.words (omega arith) in
     let f = c.in_ok-known.ensures in
     let h : first_that (call_tests m.tables (some q)) ≡ none = sym (f.tested ∙ ap (λ (o : Option Call). first_that (call_tests m.tables o)) f.known) in
-    let quiet = sym c.gives.ensures ∙ c.if-gives.false in
+    let quiet = sym c.can_give.ensures ∙ c.if-can_give.false in
     rw f.known
     (worked_out _ _ _ _ h
     (c.finish.ensures ∙ ap (λ (x : Maps). finished x q) (quiet_given m k q quiet) ∙ finished_call m k (sized_view t.words _ _) n q h)
