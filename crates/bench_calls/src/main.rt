@@ -18,7 +18,12 @@ fn say(rt: &impl Print, n: u64) {
 
 fn run(rt: &impl Print, calls: &[u8]) {
     let mut gained = 0u64;
-    let mut t = Tracker::new();
+    // As `Tracker::new` has them, which would leave a second copy on the stack.
+    let mut t = Tracker {
+        words: [0u64; 353],
+        descriptors: [Tracker::CLOSED; 512],
+        names: [Tracker::CLOSED; 128],
+    };
     let (fives, _rest) = calls.as_chunks::<5>();
     for &[kind, process, a, b, c] in fives {
         let (refusal, containers) = match t.work(Call {
