@@ -106,10 +106,8 @@ def report() -> Report:
     more = sorted({c.hook - c.in_place for c in found.values()})
     by = f"{more[0]:,}" if len(more) == 1 else f"{more[0]:,} to {more[-1]:,}"
     text = (
-        f"By the hook a call takes {by} instructions more than in place. One copy of the monitor's "
-        f"{monitor_size():,} bytes takes {copy:,}: the hook makes one out and one back, "
-        f"{2 * copy:,}, and the rest, {more[0] - 2 * copy:,}, is what the step by value takes more "
-        f"than the same in place, since it takes the monitor apart and puts it together again. "
+        f"By the hook a call takes {by} instructions more than in place, since it copies the monitor "
+        f"out and back. One copy of its {monitor_size():,} bytes by the C library takes {copy:,}. "
         f"Peak of the stack over all kinds, worst state, 32 rules, with that of the program "
         f"itself: {peaks[HOOK]:,} bytes by the hook, {peaks[IN_PLACE]:,} in place, {peaks[NONE]:,} "
         f"with no call. Code of the archive: {archive_bytes():,} bytes."
