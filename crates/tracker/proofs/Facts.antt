@@ -11,7 +11,7 @@ use lib.ListN.{get_or}
 use borrow.Author.Tests.{ltb-true, leb-false, eqb-true, eqb-false, not-false}
 use Rattle.flow.specs.Box.{closed, slot, container_of, is_file, Sort, to_read, both_ways, row_of, mappings, descriptor, is_open}
 use Rattle.flow.specs.Calls.{Kind, start, open_name, create, pipe, device, dup, close, read, write, truncate, map_read, map_both, unmap, unlink, rename, link, fork, exit, label, Call, kind_number, is_kind, sort_of}
-use Rattle.flow.specs.Refusals.{a_process, a_descriptor, a_name, a_container, a_file, an_item, unused, ranges, fields_fit, in_range, open_descriptor, need_of, missing, full}
+use Rattle.flow.specs.Refusals.{a_process, a_descriptor, a_name, a_container, a_file, an_item, a_sort, unused, ranges, fields_fit, in_range, open_descriptor, need_of, missing, full}
 use Rattle.flow.proofs.Bools.{and_r, or_false_l}
 use Rattle.flow.proofs.TableLaws.{untrue}
 use Rattle.flow.proofs.Rows.{target_lt}
@@ -108,6 +108,10 @@ module _ {m : Maps} {q : Call} (h : Passes m q) where
     pub file_c : (ranges k).c ≡ a_file → q.c < 64
     unfolding in_range is_file
     file_c r = ltb-true q.c 64 (and_r (leb 24 q.c) _ (rw r at (fits_c (ranges k) q fits)))
+
+    pub sort_b : (ranges k).b ≡ a_sort → q.b < 2
+    unfolding in_range
+    sort_b r = ltb-true _ _ (rw r at (fits_b (ranges k) q fits))
 
   pub leads_to : (k : Kind) → q.kind ≡ k → need_of k ≡ open_descriptor → get_or m.tables.descriptors (slot q.process q.a) closed < 64
   unfolding missing is_open descriptor
