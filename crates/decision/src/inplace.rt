@@ -181,6 +181,7 @@ fn load_in(m: &mut Monitor, rule: Rule) -> Answer
 }
 
 // What the record at the front of the bytes gets.
+#[tactic(auto, unfolding(records::specs::Reading::reading_of))]
 pub fn answer_in(m: &mut Monitor, bytes: &[u8]) -> Answer
     ensures { AnswersRecord m.old bytes.now (record { answer = result; monitor = m.new }) }
 {
@@ -192,6 +193,7 @@ pub fn answer_in(m: &mut Monitor, bytes: &[u8]) -> Answer
 }
 
 // The same, as a number. A call goes by `call_code`, so that in the library `call_in` has one caller and becomes a part of it (DECISIONS S11).
+#[tactic(auto, unfolding(records::specs::Reading::reading_of))]
 pub fn answer_code(m: &mut Monitor, bytes: &[u8]) -> u32
     ensures { Coded (AnswersRecord m.old bytes.now) result m.new }
 {
