@@ -60,6 +60,8 @@ fn stop_in(m: &mut Monitor, q: KnownCall, k: u8) -> Option<Diverted>
     requires { (k < rule_count) × Passes (maps m.old) (asked q) }
     ensures answers { AnswersStopped m.old (asked q) k (record { answer = stopped_by k result; monitor = m.new }) }
     ensures rules { m.new.rules ≡ m.old.rules }
+    ensures descriptors { m.new.tracker.descriptors ≡ m.old.tracker.descriptors }
+    ensures names { m.new.tracker.names ≡ m.old.tracker.names }
 {
     // How long the arrays are: of a struct within a struct the proof does not know it.
     lengths(&m.tracker.words, &m.tracker.names);
@@ -103,6 +105,7 @@ fn give_by<G: Giving>(m: &mut Monitor, q: KnownCall) -> Result<u64, u8>
 }
 
 // The same of any call that can give.
+#[tactic(auto, using(crate::proofs::CallLaws::passes_made), unfolding(crate::specs::Answers::Gives))]
 fn give_in(m: &mut Monitor, q: KnownCall) -> Result<u64, u8>
     requires { Passes (maps m.old) (asked q) × (gives_by (kind_in q.kind) ≡ true) }
     ensures { Gives m.old (asked q) result m.new }
@@ -156,7 +159,8 @@ pub fn call_code(m: &mut Monitor, q: Call) -> u32
 
 // Loads a rule, where it may be. Answers its number.
 fn load(m: &mut Monitor, rule: Rule) -> Result<u8, Refusal>
-    ensures { Answers m.old (a_rule (rule_in rule)) (record { answer = loaded_by result; monitor = m.new }) }
+    ensures answers { Answers m.old (a_rule (rule_in rule)) (record { answer = loaded_by result; monitor = m.new }) }
+    ensures tracker { m.new.tracker ≡ m.old.tracker }
 {
     unfit(rule)?;
     let k = m.rules.count();
@@ -172,7 +176,8 @@ fn load(m: &mut Monitor, rule: Rule) -> Result<u8, Refusal>
 
 // What a rule gets.
 fn load_in(m: &mut Monitor, rule: Rule) -> Answer
-    ensures { Answers m.old (a_rule (rule_in rule)) (record { answer = result; monitor = m.new }) }
+    ensures answers { Answers m.old (a_rule (rule_in rule)) (record { answer = result; monitor = m.new }) }
+    ensures tracker { m.new.tracker ≡ m.old.tracker }
 {
     match load(m, rule) {
         Ok(k) => Answer::Loaded(k),
@@ -181,6 +186,7 @@ fn load_in(m: &mut Monitor, rule: Rule) -> Answer
 }
 
 // What the record at the front of the bytes gets.
+#[tactic(auto, unfolding(records::specs::Reading::reading_of))]
 pub fn answer_in(m: &mut Monitor, bytes: &[u8]) -> Answer
     ensures { AnswersRecord m.old bytes.now (record { answer = result; monitor = m.new }) }
 {
@@ -192,6 +198,7 @@ pub fn answer_in(m: &mut Monitor, bytes: &[u8]) -> Answer
 }
 
 // The same, as a number. A call goes by `call_code`, so that in the library `call_in` has one caller and becomes a part of it (DECISIONS S11).
+#[tactic(auto, unfolding(records::specs::Reading::reading_of))]
 pub fn answer_code(m: &mut Monitor, bytes: &[u8]) -> u32
     ensures { Coded (AnswersRecord m.old bytes.now) result m.new }
 {

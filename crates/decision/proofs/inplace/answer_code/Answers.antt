@@ -16,15 +16,6 @@ returns-in-Ok-Call c =
       promised = by_reading _ _ _ _ (rw c.in-Ok-Call.field-0-is at c.in-Ok-Call.ensures) c.call_code.ensures.coded.promised;
     }
 
-pub returns-in-Ok-Rule : goal.returns-in-Ok-Rule
-unfolding reading_of
-returns-in-Ok-Rule c =
-    record {
-      answer = c.load_in.result;
-      code = c.code.ensures;
-      promised = by_reading _ _ _ _ (rw c.in-Ok-Rule.field-0-is at c.in-Ok-Rule.ensures) c.load_in.ensures;
-    }
-
 pub returns-in-Err : goal.returns-in-Err
 unfolding reading_of tests_of first_that
 returns-in-Err c =

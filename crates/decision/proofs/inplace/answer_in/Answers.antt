@@ -10,10 +10,6 @@ pub returns-in-Ok-Call : goal.returns-in-Ok-Call
 unfolding reading_of
 returns-in-Ok-Call c = by_reading _ _ _ _ (rw c.in-Ok-Call.field-0-is at c.in-Ok-Call.ensures) c.call_in.ensures.answers
 
-pub returns-in-Ok-Rule : goal.returns-in-Ok-Rule
-unfolding reading_of
-returns-in-Ok-Rule c = by_reading _ _ _ _ (rw c.in-Ok-Rule.field-0-is at c.in-Ok-Rule.ensures) c.load_in.ensures
-
 pub returns-in-Err : goal.returns-in-Err
 unfolding reading_of tests_of first_that
 returns-in-Err c = by_reading _ _ _ _ c.in-Err.ensures (refused_as _ _ _ refl)
