@@ -13,26 +13,26 @@ use terms::rule::{Condition, Rule};
 /// The greatest number of rules.
 pub const RULE_COUNT: u8 = 32;
 
-// The tags of document 01, of which any other than the first two stands for the third.
-// Numbers and no enum, as in records: any byte may lie there, since the layout is C's.
-const FORBID_TAG: u8 = 0x11;
+/// The tags of document 01, of which any other than the first two stands for the third.
+/// Numbers and no enum, as in records: any byte may lie there, since the layout is C's.
+pub const FORBID_TAG: u8 = 0x11;
 
-const SEPARATE_TAG: u8 = 0x12;
+pub const SEPARATE_TAG: u8 = 0x12;
 
 const CONFINE_TAG: u8 = 0x13;
 
-// The places in `fields`.
-const FIELDS_EACH: usize = 4;
+/// The places in `fields`.
+pub const FIELDS_EACH: usize = 4;
 
-const TAG_FIELD: usize = 0;
+pub const TAG_FIELD: usize = 0;
 
-const ITEM_FIELD: usize = 1;
+pub const ITEM_FIELD: usize = 1;
 
-const ACTION_FIELD: usize = 2;
+pub const ACTION_FIELD: usize = 2;
 
-const SUBSTITUTE_FIELD: usize = 3;
+pub const SUBSTITUTE_FIELD: usize = 3;
 
-const COUNT_FIELD: usize = 128;
+pub const COUNT_FIELD: usize = 128;
 
 // The condition as it is stored: its tag, its item, and its set or its second item.
 fn parts(condition: Condition) -> (u8, u8, u64)
