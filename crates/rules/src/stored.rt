@@ -1,5 +1,5 @@
 // The loaded rules as they are stored, and what is read of them (document 01, The records).
-ghost use Rattle.std.specs.Prelude.{◌≡◌, ◌<◌, [], ◌∷◌, ◌++◌};
+ghost use Rattle.std.specs.Prelude.{◌≡◌, ◌<◌, true, false, [], ◌∷◌, ◌++◌, MatchOption};
 ghost use Rattle.flow.specs.Box.{container_count, rule_count};
 ghost use Rattle.flow.specs.Records.{condition_of};
 ghost use Rattle.terms.specs.Rules.{condition_in, rule_in};
@@ -79,21 +79,23 @@ impl Rules {
         }
     }
 
-    // Whether rule k speaks of an item of the set x; a number stands for its remainder by 64. The stored bytes are asked: to ask the condition that
-    // they make costs a third more for each rule that judging goes past.
-    pub(crate) fn touches(&self, k: u8, x: u64) -> bool
+    // The condition of rule k, where it speaks of an item of the set x; a number stands for its remainder by 64. The stored bytes are asked: to ask
+    // the condition that they make costs a third more for each rule that judging goes past. Two places answer: one for both costs a third more for
+    // each rule that is touched.
+    pub(crate) fn touched(&self, k: u8, x: u64) -> Option<Condition>
         requires { k < rule_count }
-        ensures { result ≡ touches x (by_rests (condition_at self.now.sets self.now.fields k)) }
+        ensures { MatchOption result (touches x (by_rests (condition_at self.now.sets self.now.fields k)) ≡ false) (λ c. (condition_in c ≡ condition_at self.now.sets self.now.fields k) × (touches x (by_rests (condition_at self.now.sets self.now.fields k)) ≡ true)) }
     {
         let i = k as usize;
         let at = FIELDS_EACH * i;
         if sets::member(x, self.fields[at + ITEM_FIELD]) {
-            return true;
+            return Some(self.condition(k));
         }
-        if self.fields[at + TAG_FIELD] == SEPARATE_TAG {
-            return sets::member(x, (self.sets[i] % 64) as u8);
+        let separate = self.fields[at + TAG_FIELD] == SEPARATE_TAG;
+        if separate && sets::member(x, (self.sets[i] % 64) as u8) {
+            return Some(self.condition(k));
         }
-        false
+        None
     }
 
     /// The action of rule k, as its number: any byte may be stored, and its clause gives it as it is.
