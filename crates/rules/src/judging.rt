@@ -56,11 +56,11 @@ fn met(words: &[u64; 353], plan: Plan, set: u64) -> u64
     kept | only_if(set & plan.to != 0, plan.given) | only_if(set & plan.to2 != 0, plan.given2)
 }
 
-// Whether x has i and y has j. By & and no branch, so that the members are asked as masks, which the two gifts share.
+// Whether x has i and y has j.
 fn both(x: u64, i: u64, y: u64, j: u64) -> bool
     ensures { result ≡ (has_of x i && has_of y j) }
 {
-    has(x, i) & has(y, j)
+    has(x, i) && has(y, j)
 }
 
 // Whether of items i and j one is given, and the other is met where the gift goes.

@@ -80,18 +80,25 @@ impl Rules {
     }
 
     // The condition of rule k, where it speaks of an item of the set x; a number stands for its remainder by 64. The stored bytes are asked: to ask
-    // the condition that they make costs a third more for each rule that judging goes past. Two places answer: one for both costs a third more for
-    // each rule that is touched.
+    // the condition that they make costs a third more for each rule that judging goes past. A separate rule is told first, and each way answers by
+    // itself: one answer for all costs a third more for each rule that is touched.
     pub(crate) fn touched(&self, k: u8, x: u64) -> Option<Condition>
         requires { k < rule_count }
         ensures { MatchOption result (touches x (by_rests (condition_at self.now.sets self.now.fields k)) ≡ false) (λ c. (condition_in c ≡ condition_at self.now.sets self.now.fields k) × (touches x (by_rests (condition_at self.now.sets self.now.fields k)) ≡ true)) }
     {
         let i = k as usize;
         let at = FIELDS_EACH * i;
-        if sets::member(x, self.fields[at + ITEM_FIELD]) {
+        let first = self.fields[at + ITEM_FIELD];
+        let separate = self.fields[at + TAG_FIELD] == SEPARATE_TAG;
+        if sets::member(x, first) {
+            if separate {
+                return Some(Condition::Separate {
+                    item: first,
+                    other: self.sets[i],
+                });
+            }
             return Some(self.condition(k));
         }
-        let separate = self.fields[at + TAG_FIELD] == SEPARATE_TAG;
         if separate && sets::member(x, (self.sets[i] % 64) as u8) {
             return Some(self.condition(k));
         }
