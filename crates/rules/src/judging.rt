@@ -27,10 +27,13 @@ fn only_if(b: bool, x: u64) -> u64
     if b { x } else { 0 }
 }
 
-// The containers that get item i.
+// The containers that get item i. No item is past 63, which is asked once for both gifts.
 fn gets(plan: Plan, i: u64) -> u64
     ensures { result ≡ gets_of plan i }
 {
+    if ITEMS as u64 <= i {
+        return 0;
+    }
     only_if(has(plan.given, i), plan.to) | only_if(has(plan.given2, i), plan.to2)
 }
 
@@ -97,15 +100,13 @@ fn breaks_anew(plan: Plan, first: u64, second: u64, rules: &Rules, k: u8) -> boo
     requires { k < rule_count }
     ensures { (l : List ℕ) → Met l plan plan.to first → Met l plan plan.to2 second → result ≡ breaks_rule l plan rules.now.sets rules.now.fields k }
 {
-    if !rules.touches(k, plan.given | plan.given2) {
-        return false;
-    }
-    match rules.condition(k) {
-        Condition::Forbid { item, set } => enters(plan, item as u64, set),
-        Condition::Separate { item, other } => {
+    match rules.touched(k, plan.given | plan.given2) {
+        Some(Condition::Forbid { item, set }) => enters(plan, item as u64, set),
+        Some(Condition::Separate { item, other }) => {
             joins(plan.given, first, plan.given2, second, item as u64, other)
         }
-        Condition::Confine { item, set } => leaves(plan, item as u64, set),
+        Some(Condition::Confine { item, set }) => leaves(plan, item as u64, set),
+        None => false,
     }
 }
 
@@ -128,16 +129,15 @@ pub fn judge(words: &[u64; 353], plan: Plan, rules: &Rules) -> Option<u8>
         return None;
     }
     for k in 0..rules.count() {
-        if rules.touches(k, given) {
-            // As `breaks_anew`, but a separate rule goes on in `judge_from`.
-            let breaks = match rules.condition(k) {
-                Condition::Forbid { item, set } => enters(plan, item as u64, set),
-                Condition::Separate { .. } => return judge_from(words, plan, rules, k),
-                Condition::Confine { item, set } => leaves(plan, item as u64, set),
-            };
-            if breaks {
-                return Some(k);
-            }
+        // As `breaks_anew`, but a separate rule goes on in `judge_from`.
+        let breaks = match rules.touched(k, given) {
+            Some(Condition::Forbid { item, set }) => enters(plan, item as u64, set),
+            Some(Condition::Separate { .. }) => return judge_from(words, plan, rules, k),
+            Some(Condition::Confine { item, set }) => leaves(plan, item as u64, set),
+            None => false,
+        };
+        if breaks {
+            return Some(k);
         }
     }
     None

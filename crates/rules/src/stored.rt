@@ -1,5 +1,5 @@
 // The loaded rules as they are stored, and what is read of them (document 01, The records).
-ghost use Rattle.std.specs.Prelude.{◌≡◌, ◌<◌, [], ◌∷◌, ◌++◌};
+ghost use Rattle.std.specs.Prelude.{◌≡◌, ◌<◌, true, false, [], ◌∷◌, ◌++◌, MatchOption};
 ghost use Rattle.flow.specs.Box.{container_count, rule_count};
 ghost use Rattle.flow.specs.Records.{condition_of};
 ghost use Rattle.terms.specs.Rules.{condition_in, rule_in};
@@ -13,26 +13,26 @@ use terms::rule::{Condition, Rule};
 /// The greatest number of rules.
 pub const RULE_COUNT: u8 = 32;
 
-// The tags of document 01, of which any other than the first two stands for the third.
-// Numbers and no enum, as in records: any byte may lie there, since the layout is C's.
-const FORBID_TAG: u8 = 0x11;
+/// The tags of document 01, of which any other than the first two stands for the third.
+/// Numbers and no enum, as in records: any byte may lie there, since the layout is C's.
+pub const FORBID_TAG: u8 = 0x11;
 
-const SEPARATE_TAG: u8 = 0x12;
+pub const SEPARATE_TAG: u8 = 0x12;
 
 const CONFINE_TAG: u8 = 0x13;
 
-// The places in `fields`.
-const FIELDS_EACH: usize = 4;
+/// The places in `fields`.
+pub const FIELDS_EACH: usize = 4;
 
-const TAG_FIELD: usize = 0;
+pub const TAG_FIELD: usize = 0;
 
-const ITEM_FIELD: usize = 1;
+pub const ITEM_FIELD: usize = 1;
 
-const ACTION_FIELD: usize = 2;
+pub const ACTION_FIELD: usize = 2;
 
-const SUBSTITUTE_FIELD: usize = 3;
+pub const SUBSTITUTE_FIELD: usize = 3;
 
-const COUNT_FIELD: usize = 128;
+pub const COUNT_FIELD: usize = 128;
 
 // The condition as it is stored: its tag, its item, and its set or its second item.
 fn parts(condition: Condition) -> (u8, u8, u64)
@@ -79,21 +79,30 @@ impl Rules {
         }
     }
 
-    // Whether rule k speaks of an item of the set x; a number stands for its remainder by 64. The stored bytes are asked: to ask the condition that
-    // they make costs a third more for each rule that judging goes past.
-    pub(crate) fn touches(&self, k: u8, x: u64) -> bool
+    // The condition of rule k, where it speaks of an item of the set x; a number stands for its remainder by 64. The stored bytes are asked: to ask
+    // the condition that they make costs a third more for each rule that judging goes past. A separate rule is told first, and each way answers by
+    // itself: one answer for all costs a third more for each rule that is touched.
+    pub(crate) fn touched(&self, k: u8, x: u64) -> Option<Condition>
         requires { k < rule_count }
-        ensures { result ≡ touches x (by_rests (condition_at self.now.sets self.now.fields k)) }
+        ensures { MatchOption result (touches x (by_rests (condition_at self.now.sets self.now.fields k)) ≡ false) (λ c. (condition_in c ≡ condition_at self.now.sets self.now.fields k) × (touches x (by_rests (condition_at self.now.sets self.now.fields k)) ≡ true)) }
     {
         let i = k as usize;
         let at = FIELDS_EACH * i;
-        if sets::member(x, self.fields[at + ITEM_FIELD]) {
-            return true;
+        let first = self.fields[at + ITEM_FIELD];
+        let separate = self.fields[at + TAG_FIELD] == SEPARATE_TAG;
+        if sets::member(x, first) {
+            if separate {
+                return Some(Condition::Separate {
+                    item: first,
+                    other: self.sets[i],
+                });
+            }
+            return Some(self.condition(k));
         }
-        if self.fields[at + TAG_FIELD] == SEPARATE_TAG {
-            return sets::member(x, (self.sets[i] % 64) as u8);
+        if separate && sets::member(x, (self.sets[i] % 64) as u8) {
+            return Some(self.condition(k));
         }
-        false
+        None
     }
 
     /// The action of rule k, as its number: any byte may be stored, and its clause gives it as it is.

@@ -6,6 +6,7 @@ use mir.Syntax.{w64}
 use borrow.Author.Rules.{rules}
 use Rattle.sets.specs.Sets.{◌∪◌}
 use Rattle.sets.proofs.Members.{union_lt}
+use Rattle.terms.specs.Rules.{condition_in}
 use Rattle.rules.specs.Judging.{breaks_anew}
 use Rattle.rules.proofs.AnewLaws.{far}
 use Rattle.rules.proofs.MetLaws.{joined}
@@ -18,20 +19,20 @@ gained_lt c =
     let y : Fits w64 c.args.plan.given2 = search rules in
     union_lt _ _ x.fits y.fits
 
-pub returns-then-not-touches : goal.returns-then-not-touches
+pub returns-in-None : goal.returns-in-None
 unfolding ◌∪◌
-returns-then-not-touches c = λ l m n. sym (far _ l _ (gained_lt (goal.at.returns-then-not-touches c).Start) (sym c.touches.ensures ∙ c.if-not-touches.true))
+returns-in-None c = λ l m n. sym (far _ l _ (gained_lt (goal.at.returns-in-None c).Start) c.in-None.ensures)
 
-pub returns-in-Forbid : goal.returns-in-Forbid
+pub returns-in-Some-Forbid : goal.returns-in-Some-Forbid
 unfolding breaks_anew
-returns-in-Forbid c = λ l m n. c.enters.ensures ∙ ap (breaks_anew l _) c.in-Forbid.ensures
+returns-in-Some-Forbid c = λ l m n. c.enters.ensures ∙ ap (breaks_anew l _) (sym (ap condition_in c.in-Some-Forbid.field-0-is) ∙ c.in-Some-Forbid.ensures.0)
 
-pub returns-in-Separate : goal.returns-in-Separate
-returns-in-Separate c = λ l m n.
+pub returns-in-Some-Separate : goal.returns-in-Some-Separate
+returns-in-Some-Separate c = λ l m n.
     let x : Fits w64 c.args.plan.to = search rules in
     let y : Fits w64 c.args.plan.to2 = search rules in
-    c.joins.ensures ∙ joined l _ x.fits y.fits _ _ m n _ _ ∙ ap (breaks_anew l _) c.in-Separate.ensures
+    c.joins.ensures ∙ joined l _ x.fits y.fits _ _ m n _ _ ∙ ap (breaks_anew l _) (sym (ap condition_in c.in-Some-Separate.field-0-is) ∙ c.in-Some-Separate.ensures.0)
 
-pub returns-in-Confine : goal.returns-in-Confine
+pub returns-in-Some-Confine : goal.returns-in-Some-Confine
 unfolding breaks_anew
-returns-in-Confine c = λ l m n. c.leaves.ensures ∙ ap (breaks_anew l _) c.in-Confine.ensures
+returns-in-Some-Confine c = λ l m n. c.leaves.ensures ∙ ap (breaks_anew l _) (sym (ap condition_in c.in-Some-Confine.field-0-is) ∙ c.in-Some-Confine.ensures.0)

@@ -10,6 +10,8 @@ use borrow.Author.Rules.{rules}
 use Rattle.std.specs.Prelude.{Option}
 use Rattle.sets.specs.Sets.{◌∪◌}
 use Rattle.sets.proofs.Members.{union_lt}
+use Rattle.flow.proofs.Bools.{no_both}
+use Rattle.terms.specs.Rules.{condition_in}
 use Rattle.store.specs.Maps.{items_in}
 use Rattle.rules.specs.Stored.{condition_at}
 use Rattle.rules.specs.Judging.{breaks_anew, AnewFrom, Judged}
@@ -17,7 +19,7 @@ use Rattle.rules.proofs.Searching.{first_onward}
 use Rattle.rules.proofs.StoredLaws.{count_le}
 use Rattle.rules.proofs.AnewLaws.{far, nothing_given, judges}
 use Rattle.rules.proofs.judging.judge.Goals as goal
-use Rattle.rules.proofs.judging.judge.Goals.{Start, then-touches+else-breaks, in-Forbid, in-Confine, else-touches}
+use Rattle.rules.proofs.judging.judge.Goals.{Start, in-None, in-Some-Forbid, in-Some-Confine}
 
 answer : (c : Start) (r : Option ℕ)
     → AnewFrom (items_in c.args.words.now) c.args.plan c.args.rules.now.sets c.args.rules.now.fields 0 r
@@ -40,22 +42,20 @@ pub returns-then-given-eq0 : goal.returns-then-given-eq0
 unfolding ◌∪◌
 returns-then-given-eq0 c = answer (goal.at.returns-then-given-eq0 c).Start _ (nothing_given _ c.if-given-eq0.true _ _ _)
 
-pub touches-requires : goal.touches-requires
-touches-requires c = omega (arith, c.count-k-end.ensures, count_le c.args.rules.now.fields)
+pub touched-requires : goal.touched-requires
+touched-requires c = omega (arith, c.count-k-end.ensures, count_le c.args.rules.now.fields)
 
-pub condition-requires : goal.condition-requires
-condition-requires c = omega (arith, c.count-k-end.ensures, count_le c.args.rules.now.fields)
-
-pub returns-in-Separate : goal.returns-in-Separate
-returns-in-Separate c = answer (goal.at.returns-in-Separate c).Start _ (first_onward _ _ _ c.loop-k.invariant _ c.judge_from.ensures)
+pub returns-in-Some-Separate : goal.returns-in-Some-Separate
+returns-in-Some-Separate c = answer (goal.at.returns-in-Some-Separate c).Start _ (first_onward _ _ _ c.loop-k.invariant _ c.judge_from.ensures)
 
 pub returns-then-breaks : goal.returns-then-breaks
 unfolding breaks_anew
 returns-then-breaks c =
     let hit : breaks_anew (items_in c.args.words.now) c.args.plan (condition_at c.args.rules.now.sets c.args.rules.now.fields c.loop-k.k) ≡ true =
-    elim c.match-condition.branch [
-      | in-Forbid w ↦ sym (ap (breaks_anew _ _) w.in-Forbid.ensures) ∙ sym w.enters-breaks.ensures ∙ sym w.breaks-is ∙ c.if-breaks.true
-      | in-Confine w ↦ sym (ap (breaks_anew _ _) w.in-Confine.ensures) ∙ sym w.leaves-breaks.ensures ∙ sym w.breaks-is ∙ c.if-breaks.true
+    elim c.match-touched.branch [
+      | in-Some-Forbid w ↦ sym (ap (breaks_anew _ _) (sym (ap condition_in w.in-Some-Forbid.field-0-is) ∙ w.in-Some-Forbid.ensures.0)) ∙ sym w.enters-breaks.ensures ∙ sym w.breaks-is ∙ c.if-breaks.true
+      | in-Some-Confine w ↦ sym (ap (breaks_anew _ _) (sym (ap condition_in w.in-Some-Confine.field-0-is) ∙ w.in-Some-Confine.ensures.0)) ∙ sym w.leaves-breaks.ensures ∙ sym w.breaks-is ∙ c.if-breaks.true
+      | in-None w ↦ no_both c.if-breaks.true w.breaks-is
     ] in
     answer (goal.at.returns-then-breaks c).Start _ (omega arith, omega (arith, c.count-k-end.ensures), hit, λ j l m. c.loop-k.invariant j m)
 
@@ -63,12 +63,10 @@ pub loop-k-preserved : goal.loop-k-preserved
 unfolding breaks_anew ◌∪◌
 loop-k-preserved c =
     below_more _ _ c.loop-k.invariant
-    (elim c.if-touches.branch [
-      | then-touches+else-breaks w ↦ elim w.match-condition.branch [
-        | in-Forbid x ↦ sym (ap (breaks_anew _ _) x.in-Forbid.ensures) ∙ sym x.enters-breaks.ensures ∙ sym x.breaks-is ∙ w.if-breaks.false
-        | in-Confine x ↦ sym (ap (breaks_anew _ _) x.in-Confine.ensures) ∙ sym x.leaves-breaks.ensures ∙ sym x.breaks-is ∙ w.if-breaks.false
-      ]
-      | else-touches w ↦ far _ _ _ (gained_lt (goal.at.loop-k-preserved c).Start) (sym c.touches.ensures ∙ w.if-touches.false)
+    (elim c.match-touched.branch [
+      | in-Some-Forbid w ↦ sym (ap (breaks_anew _ _) (sym (ap condition_in w.in-Some-Forbid.field-0-is) ∙ w.in-Some-Forbid.ensures.0)) ∙ sym w.enters-breaks.ensures ∙ sym w.breaks-is ∙ c.if-breaks.false
+      | in-Some-Confine w ↦ sym (ap (breaks_anew _ _) (sym (ap condition_in w.in-Some-Confine.field-0-is) ∙ w.in-Some-Confine.ensures.0)) ∙ sym w.leaves-breaks.ensures ∙ sym w.breaks-is ∙ c.if-breaks.false
+      | in-None w ↦ far _ _ _ (gained_lt (goal.at.loop-k-preserved c).Start) w.in-None.ensures
     ])
 
 pub returns : goal.returns
