@@ -8,17 +8,15 @@ use mathlib.Core.Option.{Option, none, some}
 use lib.ListN.{get_or, length}
 use Rattle.std.specs.Prelude.{None, Some}
 use Rattle.flow.specs.Lists.{first_that}
-use Rattle.flow.specs.Calls.{Kind, Call, change, after}
-use Rattle.flow.specs.Records.{a_call, call_by, call_from}
+use Rattle.flow.specs.Calls.{Call, change, after}
+use Rattle.flow.specs.Records.{a_call}
 use Rattle.flow.specs.Refusals.{call_tests, tests_of}
 use Rattle.flow.specs.Verdicts.{gained_from}
 use Rattle.flow.specs.Box.{State, Rule}
 use Rattle.flow.specs.Gained.{gained}
 use Rattle.flow.proofs.GainLaws.{gained_none}
 use Rattle.sets.specs.Sets.{has, ◌∪◌}
-use Rattle.terms.specs.declared.call.Call.{Call as Bytes}
 use Rattle.terms.specs.declared.refusal.Refusal.{Refusal}
-use Rattle.terms.specs.Calls.{call_in}
 use Rattle.terms.specs.Refusals.{number}
 use Rattle.store.specs.declared.Plan.{Plan}
 use Rattle.store.specs.Maps.{Maps, items_in, view as maps_of, items_by}
@@ -48,18 +46,6 @@ refused_call m q r e = refused_as m (a_call q) r (sym e)
 -- a call that no test holds of passes
 pub passes : (m : Monitor) (q : Option Call) (x : Call) → none ≡ first_that (call_tests (maps m).tables q) → q ≡ some x → Passes (maps m) x
 passes m q x e k = record { none_holds = ap (λ (o : Option Call). first_that (call_tests (maps m).tables o)) (sym k) ∙ sym e }
-
--- the call of a kind and of the four bytes that it was read from is the call that was read
-by_fields : (o : Option Kind) (p a b c : ℕ) (x : Call) → call_by o p a b c ≡ some x → call_by o p a b c ≡ some (record { kind = x.kind; process = p; a = a; b = b; c = c })
-unfolding call_by
-by_fields none p a b c x h = cc
-by_fields (some k) p a b c x h =
-    let e : (record { kind = k; process = p; a = a; b = b; c = c }) ≡ x = cc in
-    ap (λ (j : Kind). some (record { kind = j; process = p; a = a; b = b; c = c })) (ap (λ (y : Call). y.kind) e)
-
-pub of_fields : (q : Bytes) (x : Call) → call_in q ≡ some x → call_in q ≡ some (record { kind = x.kind; process = q.process; a = q.a; b = q.b; c = q.c })
-unfolding call_from
-of_fields q x h = by_fields _ q.process q.a q.b q.c x h
 
 -- ---- what a call gives
 module _ (m : Monitor) (q : Call) where

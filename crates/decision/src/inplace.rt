@@ -144,16 +144,7 @@ pub fn call_in(m: &mut Monitor, q: Call) -> Answer
     ensures rules { m.new.rules ≡ m.old.rules }
 {
     match admit(&m.tracker, q) {
-        Ok(known) => admitted(
-            m,
-            KnownCall {
-                kind: known.kind,
-                process: q.process,
-                a: q.a,
-                b: q.b,
-                c: q.c,
-            },
-        ),
+        Ok(known) => admitted(m, known),
         Err(refusal) => Answer::Refused(refusal),
     }
 }
