@@ -3,7 +3,7 @@
 ghost use Rattle.std.specs.Prelude.{ℕ, ◌<◌, ◌≡◌, true};
 ghost use Rattle.std.proofs.Math.Option.{some};
 ghost use Rattle.flow.specs.Box.{rule_count};
-ghost use Rattle.flow.specs.Records.{a_call, a_rule};
+ghost use Rattle.flow.specs.Records.{a_call, a_rule, call_from};
 ghost use Rattle.terms.specs.Calls.{call_in, asked};
 ghost use Rattle.terms.specs.Kinds.{kind_in};
 ghost use Rattle.terms.specs.Rules.{rule_in};
@@ -149,12 +149,29 @@ pub fn call_in(m: &mut Monitor, q: Call) -> Answer
     }
 }
 
+// The same, as a number, by the five bytes: they come in registers. Of a call that lies where each byte was just stored, several are loaded at once,
+// and a processor waits for that.
+fn code_by(m: &mut Monitor, kind: u8, process: u8, a: u8, b: u8, c: u8) -> u32
+    ensures coded { Coded (Answers m.old (a_call (call_from kind process a b c))) result m.new }
+    ensures rules { m.new.rules ≡ m.old.rules }
+{
+    let q = Call {
+        kind,
+        process,
+        a,
+        b,
+        c,
+    };
+    code(call_in(m, q))
+}
+
 // The same, as a number: through the library an answer itself would lie in memory.
+#[inline(always)]
 pub fn call_code(m: &mut Monitor, q: Call) -> u32
     ensures coded { Coded (Answers m.old (a_call (call_in q))) result m.new }
     ensures rules { m.new.rules ≡ m.old.rules }
 {
-    code(call_in(m, q))
+    code_by(m, q.kind, q.process, q.a, q.b, q.c)
 }
 
 // Loads a rule, where it may be. Answers its number.
