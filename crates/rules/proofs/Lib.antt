@@ -7,3 +7,4 @@ pub mod StoredLaws
 pub mod LoadingLaws
 pub mod JudgingLaws
 pub mod PlanLaws
+pub mod TakenLaws

@@ -13,11 +13,12 @@ use store::lookups::items;
 use store::numbers::Container;
 use terms::rule::Condition;
 
-/// Whether i is a member of x; no number from 64 on is. By a u64, since the other item of a stored rule is one.
+/// Whether i is a member of x; no number from 64 on is. By a u64, since the other item of a stored rule is one; and by what is left without i, so
+/// that the compiler makes one mask of an item that is asked of several sets.
 pub fn has(x: u64, i: u64) -> bool
     ensures { result ≡ has_of x i }
 {
-    (i < ITEMS as u64) && (x >> i) % 2 == 1
+    (i < ITEMS as u64) && sets::without(x, i as u8) != x
 }
 
 // The set x where b holds, else the empty set.
