@@ -104,7 +104,7 @@ fn give_by<G: Giving>(m: &mut Monitor, q: KnownCall) -> Result<u64, u8>
     Ok(gained)
 }
 
-// The same of any call that can give.
+// The same of any call that can give. Its proof is left to the search, which takes any form of it.
 #[tactic(auto, using(crate::proofs::CallLaws::passes_made), unfolding(crate::specs::Answers::Gives))]
 fn give_in(m: &mut Monitor, q: KnownCall) -> Result<u64, u8>
     requires { Passes (maps m.old) (asked q) × (gives_by (kind_in q.kind) ≡ true) }

@@ -1,7 +1,7 @@
 -- `has` asks what is left without i, where there can be one.
-use Prim.Native.Nat.{◌%◌, ◌<◌}
+use Prim.Native.Nat.{◌%◌}
 use native.Mathlib.Omega.{arith}
-use mathlib.Core.Path.{◌≡◌, refl, sym, ◌∙◌}
+use mathlib.Core.Path.{◌≡◌, sym, ◌∙◌}
 use borrow.Author.Tests.{le-ltb}
 use Rattle.sets.specs.Sets.{has}
 use Rattle.sets.proofs.Members.{past_has}
